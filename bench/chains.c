@@ -1,4 +1,4 @@
-/* Times names through the image of a profile without chains of defaults, and by turns through one of the same profile with chains, by
+/* Times names through the image of a profile without chains of defaults, and in turn through one of the same profile with chains, by
  * the proved loop that the static library crates/loop_bench exports; and counts how often the second one looks up a byte.
  *
  *     chains IMAGE CHAINED NAMES PLACES ROUNDS

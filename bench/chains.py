@@ -5,7 +5,7 @@ where it is larger than without chains, and next to them those of the file that 
 depth 4 the look-ups for one byte of names of the profile's rules, and the nanoseconds of such a name (bench/chains.c), taken again
 and again and in a drawn order, without chains, with them, and the ratio. Then the profiles that get larger.
 
-The names are made of the rules as those of bench/mixes.py, but as long as the rules make them; both images are run by turns.
+The names are made of the rules as those of bench/mixes.py, but as long as the rules make them; both images are run in turn.
 
 PLACES and ROUNDS say how often all is repeated. COMPILE is the command that compiles a profile on standard input to an image, and
 takes --depth. The times are left out without gcc.

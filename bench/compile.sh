@@ -158,7 +158,7 @@ image() {
         "$bytes" "$parser_bytes" "$times_bytes"
 }
 
-# in_process FILE: a row of the third table. A program that can't be told how often to compile prints its line whatever the count.
+# in_process FILE: a row of the third table. A program without a count of compilations prints its line whatever COUNT is.
 in_process() {
     one=-
     if [ -z "$(idle "$1")" ]; then

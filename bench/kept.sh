@@ -1,6 +1,6 @@
 #!/bin/sh
 # Times opens of the same files again and again (Session::try_open), in a tree that nothing changes, by sessions that keep verdicts
-# (Session::new), next to the same opens by sessions that keep none (Session::without_kept_verdicts): one file; 64 files by turns, as
+# (Session::new), next to the same opens by sessions that keep none (Session::without_kept_verdicts): one file; 64 files in turn, as
 # many as a session keeps verdicts; 65, of which it would find none if it always kept the last ones, so after some opens in vain it
 # keeps few; and 500, of which it finds hardly any. They are 2 directories down or 16, and are opened in one thread and in four, each
 # with a session of its own.
@@ -9,8 +9,8 @@
 # OPENS opens in each thread. In short runs much of the time is the start of threads. The ratio is that of the rate with kept
 # verdicts to the one without; the last column is its inverse, the ratio of the times that an open takes.
 #
-# Wanted are, for one file and for 64 by turns, a ratio of at least 2 where they are 2 directories down, and of at least 8 where
-# they are 16 down; and for 65 by turns, and more, at most 1.15 of the time of an open without kept verdicts.
+# Required are, for one file and for 64 in turn, a ratio of at least 2 where they are 2 directories down, and of at least 8 where
+# they are 16 down; and for 65 in turn, and more, at most 1.15 of the time of an open without kept verdicts.
 #
 # UNDER is put before each run, as in bench/open.sh.
 set -eu

@@ -112,7 +112,7 @@ static void *call_often(void *argument) {
     return NULL;
 }
 
-// How many nanoseconds that takes in so many threads.
+// How many nanoseconds that takes in this many threads.
 static long long time_calls(struct work *work, int threads) {
     pthread_t started[MOST_THREADS];
     struct timespec start, end;

@@ -1,10 +1,10 @@
 /* Times the loop that runs a name through a table: the proved one, which the static library crates/loop_bench exports, and the
- * same loop written here in C, by turns, over one image and the same names. The image may have chains of defaults.
+ * same loop written here in C, in turn, over one image and the same names. The image may have chains of defaults.
  *
  *     match IMAGE PATHS PAIRS
  *
  * PATHS has a path in each line. The names are made of these paths in random order, so that a name leads through many states.
- * Each loop runs all names of one length so often that about STEPS bytes are looked up, and then not at all: the difference is
+ * Each loop runs all names of one length until about STEPS bytes are looked up, and then not at all: the difference is
  * the time of the loop, without that of loading the image. Of PAIRS such pairs of runs the least times count. Both loops must
  * lead to the same states. */
 #include <malloc.h>

@@ -1,4 +1,4 @@
-/* Times names of one kind through one image, by turns in four ways: the proved loop, a name in each call; the proved loop over eight
+/* Times names of one kind through one image, in turn in four ways: the proved loop, a name in each call; the proved loop over eight
  * names side by side, all in one call; the plain loop in C over the same image, where it is; and the loop of the kernel over the
  * tables that AppArmor's own compiler makes of the same text.
  *

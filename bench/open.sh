@@ -3,17 +3,17 @@
 # directories down, and one four down through one symbolic link and through four. First nothing is changed; then a keeper
 # renames a directory that the file isn't below, or the file's own directory, or a publisher replaces the profile, each all the
 # time, and then with a rest of REST microseconds after each change. The thread that changes sleeps for its rest, which is longer
-# by what the system adds (Linux adds some 50 microseconds, unless it is told otherwise); the column of changes shows how many
+# by what the system adds (Linux adds some 50 microseconds by default); the column of changes shows how many
 # there were.
 #
 # The first tables are of sessions that keep no verdicts (Session::without_kept_verdicts), so that each open walks, next to the
-# same opens of the same tree behind std's RwLock in Rust (bench/rwlock_tree.rs, by rustc -O). The others are of sessions that keep
+# same opens of the same tree in std's RwLock in Rust (bench/rwlock_tree.rs, by rustc -O). The others are of sessions that keep
 # verdicts (Session::new), so that an open walks only if something was changed since the last one.
 #
 # A rate counts the opens that were answered, in all threads, without those that were Busy; their share of all opens is next to
 # it. Then come the changes made meanwhile, and the ratio of the rate to that of the lock; for sessions that keep verdicts also to
 # that of sessions that keep none. The last column is the rate of each of four sessions, divided by that of one alone. Each number
-# is the median of RUNS runs, all three by turns, of OPENS opens in each thread, in a tree with room for CAPACITY entries. Threads
+# is the median of RUNS runs, all three in turn, of OPENS opens in each thread, in a tree with room for CAPACITY entries. Threads
 # that don't have a processor each show little of either. UNDER is put before each run; with 'chrt -f 20' runs have priority, but a
 # thread that never waits then keeps its processor, and four of them leave none of four for changes. COMPILE names another program
 # that compiles a profile on standard input to an image. Without rustc only the rates of sessions are printed.

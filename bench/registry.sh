@@ -1,7 +1,7 @@
 #!/bin/sh
 # Times reads of published profiles: first READERS readers run concurrently with a publisher that makes CHANGES changes, and each
 # pair that is read must have been published; then come the reads a second of one thread and of four, of READS reads in each,
-# next to the same reads of a map behind std's RwLock in Rust (bench/rwlock.rs, by rustc -O), and the ratio of both. Each of the
+# next to the same reads of a map in std's RwLock in Rust (bench/rwlock.rs, by rustc -O), and the ratio of both. Each of the
 # four threads reads all 64 names, or 16 of its own. Each rate is the median of RUNS runs; the highest would be, for the lock on
 # a busy machine, one in which the threads ran one after another. On such a machine UNDER='chrt -f 20', as root, gives the runs
 # priority. Without rustc the lock's rates are left out.

@@ -84,7 +84,7 @@ done
 row 'read: a path whose class of 1 MB has no end; half' "$(least "$work/class-half" judge w /x)" "$(least "$work/class" judge w /x)"
 
 # script_of LINES ENTRIES: a script of LINES lines: a policy, directories of up to 128 files each until there are ENTRIES
-# entries, and then by turns an open and a rename back and forth.
+# entries, and then in turn an open and a rename back and forth.
 script_of() {
     awk -v lines="$1" -v entries="$2" 'BEGIN {
         print "policy\nprofile p {\n  /d*/f* r,\n  deny /d*/g* w,\n}\n."

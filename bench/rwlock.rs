@@ -1,4 +1,4 @@
-//! What `benchmarks registry` times, with a lock: a map of shared profiles with its version, behind std's RwLock. It takes
+//! What `benchmarks registry` times, with a lock: a map of shared profiles with its version, in std's RwLock. It takes
 //! READS, and prints how many reads a second one thread and four make, with READS reads in each thread: once where each of the
 //! four reads all names, and once where it has names of its own.
 use std::collections::HashMap;

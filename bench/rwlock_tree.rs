@@ -1,4 +1,4 @@
-//! What `benchmarks open` times, with a lock: a plain tree in memory and a map of shared profiles, both behind one RwLock of
+//! What `benchmarks open` times, with a lock: a plain tree in memory and a map of shared profiles, both in one RwLock of
 //! std. It takes IMAGE, OPENS and REST, and prints lines like those of that program.
 //!
 //! The tree is the same: four symbolic links, a directory aside, and 16 directories, each in the one before, each with six files.
@@ -224,7 +224,7 @@ enum Verdict {
     NoRule(#[allow(dead_code)] u8),
 }
 
-/// What is behind the lock, with the versions of both.
+/// What the lock protects, with the versions of both.
 struct World {
     tree: Tree,
     tree_version: u64,
@@ -306,7 +306,7 @@ enum Beside {
 /// Opens of one file, in each of `threads` threads.
 struct Side<'a> {
     path: &'a [u8],
-    /// The names that its directory has by turns.
+    /// The names that its directory has in turn.
     names: [&'a [u8]; 2],
     beside: Beside,
     threads: usize,

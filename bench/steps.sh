@@ -37,7 +37,7 @@ tree_of() {
     }'
 }
 
-# script_of LINES ENTRIES: a script of LINES lines: a tree, and then by turns a call step by step, a change during which a file
+# script_of LINES ENTRIES: a script of LINES lines: a tree, and then in turn a call step by step, a change during which a file
 # is opened, a call by another session, and the change back
 script_of() {
     tree_of "$2"

@@ -1,7 +1,7 @@
 # Completion of aa-trace for bash. It needs nothing but bash itself.
 
 # What the words before the cursor say: the command, how many arguments it has so far, which options with a number were given,
-# and whether options have come to an end. A redirection and its file are no words of the program.
+# and whether options have ended. A redirection and its file are no words of the program.
 _aa_trace_read_words() {
     local index word is_file= is_text=
     for ((index = 1; index < COMP_CWORD; index++)); do
@@ -28,7 +28,7 @@ _aa_trace_read_words() {
     done
 }
 
-# The letters so far, and each letter that isn't among them put behind them.
+# The letters so far, and each letter that isn't among them put after them.
 _aa_trace_letters() {
     local so_far=$1 letter
     [[ $so_far == *[!rwlkma]* ]] && return
@@ -58,7 +58,7 @@ _aa_trace_files() {
     while IFS= read -r file; do
         COMPREPLY+=("$file")
     done < <(compgen -f -- "$1")
-    # With this readline puts a slash behind folders, and quotes what needs it. Outside of a completion it is an error.
+    # With this readline puts a slash after folders, and quotes what needs it. Outside of a completion it is an error.
     compopt -o filenames 2>/dev/null
 }
 
@@ -109,7 +109,7 @@ _aa_trace() {
     judge | explain | match | any | all)
         case $arguments in
         0) _aa_trace_letters "$cur" ;;
-        # A name or a pattern begins with a slash. What stands in the file system is often one.
+        # A name or a pattern begins with a slash. What is in the file system is often one.
         1) case $cur in '' | [/~]* | [\"\']/*) _aa_trace_files "${cur:-/}" ;; esac ;;
         esac
         ;;

@@ -119,7 +119,7 @@ struct coqetwal_counts {
  * with any other bytes the behaviour is undefined. If others can write to the bytes, as to a mapped file, use coqetwal_load.
  * An image of length 0 is none: names have no answer, and the counts are 0. */
 
-/* The first fault of an image; 0 if it is accepted. Then no name leads out of its tables, whoever made it. */
+/* The first fault of an image; 0 if it is accepted. Then no name leads out of its tables, wherever it came from. */
 struct coqetwal_fault coqetwal_image_verify(const uint8_t *image, size_t image_length);
 
 /* What an image says about a name. `asked` is a sum of permissions, 1 to 63; any other number has no answer. All of *answer is

@@ -75,7 +75,7 @@ def counted(text):
 
 
 def draw_filled(draw, lists, inner):
-    """A text with these variables and inner profiles, and with so many paths that about as much is counted as may be."""
+    """A text with these variables and inner profiles, and with enough paths that about as much is counted as may be."""
     long = draw.randint(LONGEST_TEXT // 2, LONGEST_TEXT - 1)
     start = "\n".join([f"@{{L}}={'x' * long}", *lists, "profile p {", inner + "/a r,\n"])
     tail, plain = draw.choice(TAILS)

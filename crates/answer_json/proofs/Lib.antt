@@ -1,4 +1,4 @@
 pub mod NoFloats
 pub mod NameCases
-pub mod Passing
-pub mod Splicing
+pub mod PassedMembers
+pub mod JoinedVerdicts

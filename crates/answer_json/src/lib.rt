@@ -4,11 +4,11 @@
 #![tactic(auto)]
 
 mod lines;
-mod naming;
-mod reasoning;
+mod name_values;
+mod reasons;
 mod verdicts;
 
 pub use lines::{explanation, json_line, match_line, verdict_line};
-pub use naming::name_value;
-pub use reasoning::{reason_object, reasons_array, rule_object};
+pub use name_values::name_value;
+pub use reasons::{reason_object, reasons_array, rule_object};
 pub use verdicts::{explanation_object, verdict_object};

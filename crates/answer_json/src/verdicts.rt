@@ -8,7 +8,7 @@ ghost use Rattle.serde_json.specs.Data.{member, no_members, object, string};
 ghost use Rattle.serde_json.specs.View.{view};
 ghost use Rattle.serde_json.specs.Written.{has_float};
 
-use crate::reasoning::reasons_array;
+use crate::reasons::reasons_array;
 use names::{NoMemory, Perms, Verdict};
 use rule_judge::judge_slow;
 use rule_profile::Profile;

@@ -6,13 +6,13 @@ use Rattle.std.proofs.lemmas.Bool.{cases_lt}
 use Rattle.std.proofs.lemmas.List.{length-append, length-drop, get_or_append_left, drop-append-le}
 use Rattle.std.proofs.lemmas.Option.{same_Some, slice_get_within, slice_get-get_or}
 use Rattle.names.specs.declared.record.Record.{Record}
-use Rattle.automata.specs.Automata.{Automaton}
-use Rattle.automata.specs.declared.range.TargetRange.{TargetRange}
-use Rattle.automata.specs.Rows.{target_in, IsRowFrom}
-use Rattle.automata.proofs.RowLaws.{row_stays, target_stays, row_some}
+use Rattle.automaton_rows.specs.Automata.{Automaton}
+use Rattle.automaton_rows.specs.declared.range.TargetRange.{TargetRange}
+use Rattle.automaton_rows.specs.Rows.{target_in, IsRowFrom}
+use Rattle.automaton_rows.proofs.RowLaws.{row_stays, target_stays, row_some}
 use Rattle.automaton_products.specs.declared.pairs.Pair.{Pair}
 use Rattle.automaton_products.specs.Products.{next_pair, AreFewPairs, Keeps, joined}
-use Rattle.automaton_products.specs.Joining.{IsJoinedRow, AreStates}
+use Rattle.automaton_products.specs.ProductStates.{IsJoinedRow, AreStates}
 use Rattle.automaton_products.proofs.PairNumbers.{get_stays, get_last}
 use Rattle.automaton_products.proofs.PairLaws.{kept_at}
 

@@ -5,11 +5,11 @@ use Rattle.std.proofs.lemmas.List.{length-append}
 use Rattle.std.proofs.lemmas.List.Elements.{All-nil, All-push, All-head, All-tail}
 use Rattle.std.proofs.lemmas.Option.{none-some, same_Some, slice_get_within}
 use Rattle.names.specs.Bytes.{are_bytes}
-use Rattle.automata.specs.declared.fault.CompileFault.{CompileFault}
-use Rattle.automata.specs.declared.fault.CompileFault.TheVariants.{TooManyStates, NoMemory}
-use Rattle.automata.specs.Automata.{Automaton, IsWhole, target, goes_to, state_after}
+use Rattle.automaton_rows.specs.declared.fault.CompileFault.{CompileFault}
+use Rattle.automaton_rows.specs.declared.fault.CompileFault.TheVariants.{TooManyStates, NoMemory}
+use Rattle.automaton_rows.specs.Automata.{Automaton, IsWhole, target, goes_to, state_after}
 use Rattle.automaton_products.specs.declared.pairs.Pair.{Pair}
-use Rattle.automaton_products.specs.Numbering.{AreDistinct, IsNumbered, IsNumberFault}
+use Rattle.automaton_products.specs.Numbers.{AreDistinct, IsNumbered, IsNumberFault}
 use Rattle.automaton_products.specs.Products.{pair, dead_pair, start_pair, next_pair, IsMet, IsReached, ArePairs, AreFewPairs, Keeps}
 use Rattle.automaton_products.specs.Products.{IsProductFault}
 use Rattle.automaton_products.proofs.PairNumbers.{get_stays, get_either, distinct_more}
@@ -73,7 +73,7 @@ module _ (a b : Automaton) where
   pair_reached pairs zero p are at = inl (same_Some p dead_pair (sym at ∙ are.dead))
   pair_reached pairs (suc i) p are at = inr (are.met (suc i) p (omega arith) at)
 
-  -- one pair more that is met
+  -- one more pair that is met
   pub more_pairs : (old new : List Pair) (p : Pair) (n : ℕ) → AreFewPairs a b old → IsMet a b p → IsNumbered old new p n →
       AreFewPairs a b new × Keeps old new
   more_pairs old new p n are met is = ⊎_elim

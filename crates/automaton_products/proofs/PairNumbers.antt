@@ -1,4 +1,4 @@
--- Numbers of what is met: where a key stands, and what the keys are with one more.
+-- Numbers of what is met: where a key is, and what the keys are with one more.
 use Rattle.std.proofs.Common.{◌≡◌, ◌≢◌, ◌⊎◌, inl, inr, ⊎_elim, ℕ, zero, suc, ◌≤◌, Bool, true, false, true≢false, List, [], ◌∷◌}
 use Rattle.std.proofs.Common.{◌++◌, length, Some, slice_get, get_or, refl, sym, ap, ◌∙◌, arith}
 use Rattle.std.specs.List.{IsDistinct, list_any, position}
@@ -8,8 +8,8 @@ use Rattle.std.proofs.lemmas.List.Folds.{list_any_at}
 use Rattle.std.proofs.lemmas.List.Quantifiers.{position-Some}
 use Rattle.std.proofs.lemmas.Option.{none-some, same_Some, slice_get_within, slice_get-get_or, get_or_from_slice_get}
 use Rattle.std.proofs.lemmas.Map.Keys.{apart_from_distinct}
-use Rattle.automata.specs.Automata.{most_sets}
-use Rattle.automaton_products.specs.Numbering.{AreDistinct, IsAbsent, IsNumbered}
+use Rattle.automaton_rows.specs.Automata.{most_sets}
+use Rattle.automaton_products.specs.Numbers.{AreDistinct, IsAbsent, IsNumbered}
 
 -- ---- a list with more after it
 

@@ -1,8 +1,8 @@
 -- One step of the walk over two rows.
 use Rattle.std.proofs.Common.{◌≡◌, ℕ, ◌<◌, ◌≤◌, List, min, sym, ap, ◌∙◌, arith}
-use Rattle.automata.specs.Automata.{Automaton, target}
-use Rattle.automata.specs.declared.range.TargetRange.{TargetRange}
-use Rattle.automata.specs.Rows.{target_in}
+use Rattle.automaton_rows.specs.Automata.{Automaton, target}
+use Rattle.automaton_rows.specs.declared.range.TargetRange.{TargetRange}
+use Rattle.automaton_rows.specs.Rows.{target_in}
 use Rattle.automaton_products.specs.declared.pairs.Pair.{Pair}
 use Rattle.automaton_products.specs.Products.{pair, next_pair}
 

@@ -4,13 +4,13 @@ use Rattle.std.proofs.Common.{sym, ap, ◌∙◌, arith}
 use Rattle.std.proofs.lemmas.Bool.{cases_lt}
 use Rattle.std.proofs.lemmas.Option.{same_Some, slice_get_within, slice_get-get_or}
 use Rattle.names.specs.declared.record.Record.{Record}
-use Rattle.automata.specs.Automata.{Automaton, IsWhole, target, state_after}
-use Rattle.automata.specs.declared.range.TargetRange.{TargetRange}
-use Rattle.automata.specs.Rows.{rows_of, AreRows}
-use Rattle.automata.proofs.RowLists.{row_at, rows_long, target_at, targets_long}
+use Rattle.automaton_rows.specs.Automata.{Automaton, IsWhole, target, state_after}
+use Rattle.automaton_rows.specs.declared.range.TargetRange.{TargetRange}
+use Rattle.automaton_rows.specs.Rows.{rows_of, AreRows}
+use Rattle.automaton_rows.proofs.RowLists.{row_at, rows_long, target_at, targets_long}
 use Rattle.automaton_products.specs.declared.pairs.Pair.{Pair}
 use Rattle.automaton_products.specs.Products.{pair, dead_pair, start_pair, next_pair, IsMet, IsProduct}
-use Rattle.automaton_products.specs.Joining.{AreStates}
+use Rattle.automaton_products.specs.ProductStates.{AreStates}
 use Rattle.automaton_products.proofs.PairLaws.{dead_next, after_there}
 
 abbrev pub tables : List TargetRange → List ℕ → List Record → ℕ → Automaton

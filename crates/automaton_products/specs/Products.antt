@@ -5,12 +5,12 @@ use Rattle.names.specs.declared.record.Record.{Record}
 use Rattle.names.specs.declared.record.LeastHits.{LeastHits}
 use Rattle.names.specs.Hits.{first_number}
 use Rattle.names.specs.Least.{hits_of, record_of}
-use Rattle.automata.specs.declared.fault.CompileFault.{CompileFault}
-use Rattle.automata.specs.declared.fault.CompileFault.TheVariants.{TooManyStates, NoMemory}
-use Rattle.automata.specs.Automata.{Automaton, IsWhole, target, state_after, most_sets}
+use Rattle.automaton_rows.specs.declared.fault.CompileFault.{CompileFault}
+use Rattle.automaton_rows.specs.declared.fault.CompileFault.TheVariants.{TooManyStates, NoMemory}
+use Rattle.automaton_rows.specs.Automata.{Automaton, IsWhole, target, state_after, most_sets}
 use Rattle.automaton_products.specs.declared.pairs.Pair.{Pair}
 use Rattle.automaton_products.specs.declared.pairs.Pairs.{Pairs}
-use Rattle.automaton_products.specs.Numbering.{AreDistinct}
+use Rattle.automaton_products.specs.Numbers.{AreDistinct}
 
 abbrev pub pair : ℕ → ℕ → Pair
 pair one other = record { one = one; other = other }

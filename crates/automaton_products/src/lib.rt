@@ -4,11 +4,11 @@
 //! proofs.
 #![tactic(auto)]
 
-mod building;
-mod joining;
+mod joins;
 mod laws;
 mod pairs;
+mod product_states;
 
-pub use building::product;
 pub use laws::equal_pairs_are_one;
 pub use pairs::Pair;
+pub use product_states::product;

@@ -1,11 +1,11 @@
 //! Pairs of states, numbered in the order in which they are met.
 ghost use Rattle.std.specs.Prelude.{◌≡◌, ◌↔◌, ◌<◌, ◌≤◌, IfOk, IfErr, IsTrue, OnOk, Some, length, slice_get};
-ghost use Rattle.automata.specs.Automata.{most_sets};
-ghost use Rattle.automaton_products.specs.Numbering.{IsNumbered, IsNumberFault};
+ghost use Rattle.automaton_rows.specs.Automata.{most_sets};
+ghost use Rattle.automaton_products.specs.Numbers.{IsNumbered, IsNumberFault};
 ghost use Rattle.automaton_products.specs.Products.{dead_pair, AreFewPairs, IsReached, IsProductFault, pairs_of, Keeps};
 
 use crate::laws::equal_pairs_are_one;
-use automata::{CompileFault, Dfa, MOST_SETS};
+use automaton_rows::{CompileFault, Dfa, MOST_SETS};
 use indexmap::IndexSet;
 use std::alloc::{AllocError, Global};
 

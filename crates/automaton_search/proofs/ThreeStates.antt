@@ -6,13 +6,13 @@ use Rattle.std.proofs.lemmas.List.Elements.{All-head, All-tail}
 use Rattle.std.proofs.lemmas.Option.{slice_get_within, slice_get-get_or}
 use Rattle.names.specs.Bytes.{are_bytes}
 use Rattle.names.specs.Paths.{IsName}
-use Rattle.automata.specs.Automata.{Automaton, IsWhole, target, goes_to}
-use Rattle.automata.specs.declared.range.TargetRange.{TargetRange}
-use Rattle.automata.specs.Rows.{target_in}
+use Rattle.automaton_rows.specs.Automata.{Automaton, IsWhole, target, goes_to}
+use Rattle.automaton_rows.specs.declared.range.TargetRange.{TargetRange}
+use Rattle.automaton_rows.specs.Rows.{target_in}
 use Rattle.automaton_search.specs.declared.fault.SearchFault.{SearchFault}
 use Rattle.automaton_search.specs.declared.fault.SearchFault.TheVariants.{TooManyStates, NoMemory}
 use Rattle.automaton_search.specs.declared.states.States.{States}
-use Rattle.automaton_search.specs.declared.walking.Trail.{Trail}
+use Rattle.automaton_search.specs.declared.walk.Trail.{Trail}
 use Rattle.automaton_search.specs.Visits.{IsSearchFault, next_states, start_states, states_after}
 use Rattle.automaton_search.specs.inner.Walks.{IsVisitFault, IsWalkAt, led}
 use Rattle.automaton_search.proofs.Lists.{distinct_more, get_either}

@@ -3,7 +3,7 @@ use Rattle.std.proofs.Common.{◌≡◌, ℕ, zero, suc, ◌+◌, ◌<◌, List,
 use Rattle.std.proofs.Common.{refl, sym, ap, ◌∙◌, arith}
 use Rattle.std.proofs.lemmas.List.{length-append}
 use Rattle.std.proofs.lemmas.Option.{none-some, same_Some, slice_get-get_or}
-use Rattle.automaton_search.specs.declared.walking.Trail.{Trail}
+use Rattle.automaton_search.specs.declared.walk.Trail.{Trail}
 use Rattle.automaton_search.specs.inner.Trails.{AreNames, GoBack, names_from}
 use Rattle.automaton_search.proofs.Lists.{get_stays, get_last}
 

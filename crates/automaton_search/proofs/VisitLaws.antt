@@ -1,9 +1,9 @@
 -- A walk at its end has all visits.
 use Rattle.std.proofs.Common.{◌≡◌, ℕ, ◌<◌, ◌≤◌, true, List, [], ◌∷◌, length, Some, slice_get, slice_index_or, sym, ap, ◌∙◌, subst, arith}
 use Rattle.std.proofs.lemmas.Option.{slice_get-get_or}
-use Rattle.automata.specs.Automata.{Automaton}
+use Rattle.automaton_rows.specs.Automata.{Automaton}
 use Rattle.automaton_search.specs.declared.states.States.{States}
-use Rattle.automaton_search.specs.declared.walking.Trail.{Trail}
+use Rattle.automaton_search.specs.declared.walk.Trail.{Trail}
 use Rattle.automaton_search.specs.contracts.states.StatesPartialEq.TheImpl as states_impl
 use Rattle.automaton_search.specs.declared.fault.SearchFault.TheVariants.{TooManyStates}
 use Rattle.automaton_search.specs.Visits.{AreAllVisits, AreDistinct, AreStatesOf, IsSearchFault, VisitsValue, most_visits}

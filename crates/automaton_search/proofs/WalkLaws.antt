@@ -7,7 +7,7 @@ use Rattle.std.proofs.lemmas.List.Elements.{All-head, All-tail}
 use Rattle.std.proofs.lemmas.Option.{same_Some, slice_get_within, slice_get-get_or}
 use Rattle.names.specs.Paths.{IsName}
 use Rattle.automaton_search.specs.Order.{IsAtMost}
-use Rattle.automaton_search.specs.declared.walking.Trail.{Trail}
+use Rattle.automaton_search.specs.declared.walk.Trail.{Trail}
 use Rattle.automaton_search.specs.inner.Walks.{IsAt, IsMetBy, IsNameByte, IsWalk, IsWalkAt, led}
 use Rattle.automaton_search.proofs.NameLaws.{name_parts}
 use Rattle.automaton_search.proofs.Orders.{less_than_more, at_most_through, at_most_with}

@@ -6,7 +6,7 @@ use Rattle.std.proofs.lemmas.List.{length-append}
 use Rattle.std.proofs.lemmas.Option.{same_Some, slice_get_within, slice_get-get_or}
 use Rattle.names.specs.Paths.{IsName}
 use Rattle.automaton_search.specs.Order.{IsLess, place_of}
-use Rattle.automaton_search.specs.declared.walking.Trail.{Trail}
+use Rattle.automaton_search.specs.declared.walk.Trail.{Trail}
 use Rattle.automaton_search.specs.inner.Trails.{AreNames}
 use Rattle.automaton_search.specs.inner.Walks.{AreKept, IsAt, IsMetBy, IsStretch, IsWalk, IsWalkAt, IsVisited, led}
 use Rattle.automaton_search.proofs.Lists.{get_stays, get_last, get_either}

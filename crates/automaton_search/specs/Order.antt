@@ -1,5 +1,5 @@
 -- The order of names (our choice): by length, and in byte order begun at `a` where the lengths are equal. So the least name that a
--- pattern takes is one to read, as `/etc/a` for `/etc/**`.
+-- pattern matches is one to read, as `/etc/a` for `/etc/**`.
 use Rattle.std.specs.Prelude.{◌≡◌, ◌⊎◌, ℕ, ◌<◌, ◌+◌, ◌-◌, List, [], ◌∷◌, length, nat_lt, if◌then◌else◌}
 
 -- The place of a byte in this order: 97, which is `a`, to 255 come first, then 0 to 96. What is no byte comes after all bytes.

@@ -1,7 +1,7 @@
 -- What names lead three automata to.
 use Rattle.std.specs.Prelude.{◌≡◌, ℕ, ◌<◌, List, [], length, Some, slice_get}
 use Rattle.names.specs.Paths.{IsName}
-use Rattle.automata.specs.Automata.{Automaton, target, state_after}
+use Rattle.automaton_rows.specs.Automata.{Automaton, target, state_after}
 use Rattle.automaton_search.specs.declared.fault.SearchFault.{SearchFault}
 use Rattle.automaton_search.specs.declared.fault.SearchFault.TheVariants.{TooManyStates, NoMemory}
 use Rattle.automaton_search.specs.declared.states.States.{States}

@@ -6,11 +6,11 @@
 
 mod fault;
 mod laws;
-mod naming;
 mod states;
 mod steps;
+mod visit_name;
 mod visits;
-mod walking;
+mod walk;
 
 pub use fault::SearchFault;
 pub use laws::names_are_in_one_order;

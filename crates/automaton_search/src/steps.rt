@@ -1,9 +1,9 @@
 //! The bytes by which a visit leads on, and the rest of a row from a byte on.
 ghost use Rattle.std.specs.Prelude.{◌≡◌, ℕ, ◌<◌, ◌≤◌};
-ghost use Rattle.automata.specs.Rows.{IsRowFrom, ends_at, target_in};
+ghost use Rattle.automaton_rows.specs.Rows.{IsRowFrom, ends_at, target_in};
 
 use crate::states::States;
-use automata::{TargetRange, head, rest_after};
+use automaton_rows::{TargetRange, head, rest_after};
 
 /// Bytes on one side of the letter `a`.
 #[derive(Clone, Copy)]

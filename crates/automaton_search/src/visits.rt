@@ -5,15 +5,15 @@ ghost use Rattle.automaton_search.specs.inner.Trails.{visits_of, GoBack};
 
 use crate::fault::SearchFault;
 use crate::laws::equal_states_are_one;
-use crate::naming::name_of;
 use crate::states::States;
-use crate::walking::{Walk, walk_all};
-use automata::Dfa;
+use crate::visit_name::name_of;
+use crate::walk::{Walk, walk_all};
+use automaton_rows::Dfa;
 use std::alloc::{AllocError, Global};
 use std::marker::Model;
 
 /// The most different states that names may lead to.
-pub const MOST_VISITS: usize = crate::walking::MOST_VISITS;
+pub const MOST_VISITS: usize = crate::walk::MOST_VISITS;
 
 /// All states of three automata that names lead to, each with the least name that leads there, in the order of these names.
 #[derive(Drop)]

@@ -1,12 +1,13 @@
 //! Changes that are made, and changes that are refused.
-use crate::lines::{change, path};
-use crate::testing::{apply, keeper, keeper_after, walk, walk_on, walker};
+use crate::fixtures::{apply, keeper, keeper_after, walk, walk_on, walker};
+use crate::lines::change;
 use dentry_cache::{Keeper, Walker};
 use directory_tree::{Change, LinkBytes};
 use names::Errno;
 use path_lookup::NAME_ROOM;
 use std::process::Abort;
 use std::test::Fail;
+use test_parts::path;
 
 // Testing a change predicts its outcome, and changes nothing.
 fn expect_test(rt: &impl Abort, keeper: &mut Keeper, made: &Change<'_>, refusal: Option<Errno>) {

@@ -1,16 +1,24 @@
-//! Tests of `dentry_cache`, and nothing else: as they are in their own crate, the library is proved once.
+//! Tests of `path_walk`, `row_tally` and `dentry_cache`, and nothing else: with the tests here, each library is proved once.
 #![tactic(auto)]
 
 #[cfg(test)]
 mod changes;
 #[cfg(test)]
+mod fixtures;
+#[cfg(test)]
+mod followed;
+#[cfg(test)]
 mod lines;
 #[cfg(test)]
 mod looks;
 #[cfg(test)]
+mod small_tree;
+#[cfg(test)]
 mod stopped;
 #[cfg(test)]
-mod testing;
+mod tallies;
+#[cfg(test)]
+mod tally_cells;
 #[cfg(test)]
 mod threads;
 #[cfg(test)]

@@ -1,6 +1,6 @@
 //! What the keeper itself sees, and whose changes a walker sees.
+use crate::fixtures::{Walked, apply, keeper, keeper_after, name, walk, walk_on, walker};
 use crate::lines::change;
-use crate::testing::{Walked, apply, keeper, keeper_after, name, walk, walk_on, walker};
 use dentry_cache::{Attempt, Busy, Keeper, Walker};
 use names::Errno;
 use path_lookup::{NAME_ROOM, WalkFault};

@@ -1,6 +1,6 @@
 //! Keepers that stop in the middle of a change: from then on each walk is concurrent with it, and none waits for its end.
-use crate::lines::{change, path};
-use crate::testing::{keeper_after, walk, walk_on, walker};
+use crate::fixtures::{keeper_after, walk, walk_on, walker};
+use crate::lines::change;
 use dentry_cache::{Attempt, Busy, Walker};
 use directory_tree::{Change, LinkBytes};
 use names::Errno;
@@ -8,6 +8,7 @@ use path_lookup::{NAME_ROOM, WalkFault};
 use std::alloc::Global;
 use std::process::Abort;
 use std::test::Fail;
+use test_parts::path;
 
 const FIRST: [&str; 4] = [
     "mkdir /a",

@@ -1,8 +1,8 @@
 //! Keepers, walkers and attempts that go to other threads.
 ghost use Rattle.std.specs.Prelude.{◌≡◌};
 
+use crate::fixtures::{apply, keeper, walker};
 use crate::lines::change;
-use crate::testing::{apply, keeper, walker};
 use crate::walks::look;
 use dentry_cache::{Attempt, Busy, Keeper, Walker};
 use directory_tree::Change;

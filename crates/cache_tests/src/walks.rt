@@ -1,14 +1,15 @@
 //! A keeper's changes, and walks concurrent with it.
 ghost use Rattle.std.specs.Prelude.{◌≡◌};
 
-use crate::lines::{change, path};
-use crate::testing::{apply, keeper, walker};
+use crate::fixtures::{apply, keeper, walker};
+use crate::lines::change;
 use dentry_cache::{Attempt, Busy, Keeper, Walker};
 use directory_tree::Change;
 use names::Errno;
 use path_lookup::Look;
 use std::process::Abort;
 use std::test::Fail;
+use test_parts::path;
 use tree_row::RowLook;
 
 /// Returns whether the root has this entry, and how the walk ended.

@@ -2,7 +2,7 @@
 //! callers in C.
 ghost use Rattle.image_judge.specs.Answers.{IsNoneOrLoaded};
 
-use crate::profiles::{TEXTS, chained_of, verified};
+use crate::profiles::{chained_of, verified};
 use crate::worked::{STALE, is_accepted};
 use image_judge::{judge, judge_all};
 use std::alloc::Global;
@@ -11,6 +11,7 @@ use std::test::Fail;
 use table_batches::{are_offsets, run_names, run_names_by_image};
 use table_image::to_bytes;
 use table_verifier::{LookUps, State, Steps, VerifiedImage, VerifiedTable, run, verify_image};
+use test_parts::PROFILE_TEXTS;
 
 // Names in one text, each from an offset to the next.
 #[derive(Drop)]
@@ -126,7 +127,7 @@ fn expect_batches(rt: &impl Abort, alloc: Global, text: &[u8], most: u16) -> Res
 
 #[test]
 fn names_in_one_call(rt: HostRuntime) -> Result<(), Fail> {
-    for text in &TEXTS {
+    for text in &PROFILE_TEXTS {
         for most in [0, 4, 64] {
             expect_batches(&rt, rt.alloc(), text, most)?;
         }
@@ -178,7 +179,7 @@ fn expect_answers_of(rt: &impl Abort, alloc: Global, text: &[u8]) -> Result<(), 
 
 #[test]
 fn answers_in_one_call(rt: HostRuntime) -> Result<(), Fail> {
-    for text in &TEXTS {
+    for text in &PROFILE_TEXTS {
         expect_answers_of(&rt, rt.alloc(), text)?;
     }
     Ok(())

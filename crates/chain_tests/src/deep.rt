@@ -1,6 +1,5 @@
 //! Long chains of defaults: how many look-ups a byte takes, up to one more than the greatest bound.
 use crate::profiles::verified;
-use crate::versions::written;
 use names::Record;
 use std::alloc::Global;
 use std::process::Abort;
@@ -9,6 +8,7 @@ use table_image::{ImageFault, RawTable};
 use table_verifier::{
     LookUps, State, Steps, VerifiedImage, VerifiedTable, run, run_image, verify, verify_image,
 };
+use test_parts::{image_of_table, put};
 
 // A chain from state 1 to the last one: each has the next one for its default, and one depth more than that. The last has no depth,
 // and leads to state 0, which is dead. All share one row, in which each owns the cell of the byte with its number, if there is one,
@@ -117,7 +117,7 @@ fn expect_name(
 // Every byte by itself leads where it leads by hand, and so do names of more bytes.
 fn expect_chain(rt: &impl Abort, alloc: Global, chain: Chain) -> Result<(), Fail> {
     let table = chain.table(alloc)?;
-    let bytes = written(alloc, &table, 2)?;
+    let bytes = image_of_table(alloc, &table, 2)?;
     let table = verified(table)?;
     let image = verify_image(&bytes)?;
     for byte in 0..=255u8 {
@@ -193,13 +193,6 @@ fn longest_chain(rt: HostRuntime) -> Result<(), Fail> {
     Ok(())
 }
 
-// Puts a number at a place, if there is such a place.
-fn put(numbers: &mut Vec<u32>, place: usize, number: u32) {
-    if let Some(found) = numbers.get_mut(place) {
-        *found = number;
-    }
-}
-
 // Which number of a state is another one.
 #[derive(Clone, Copy, Debug)]
 enum Altered {
@@ -225,7 +218,7 @@ fn expect_too_deep(
         Altered::Default => put(&mut table.default, place, number),
         Altered::Depth => put(&mut table.depth, place, number),
     }
-    let image = written(alloc, &table, 2)?;
+    let image = image_of_table(alloc, &table, 2)?;
     let want = Some(ImageFault::Depth { state });
     assert_eq!(rt; verify_image(&image).err(), want, "{altered:?} {place}");
     match verify(table) {
@@ -269,7 +262,7 @@ fn depths_over_the_bound(rt: HostRuntime) -> Result<(), Fail> {
     }
     .table(alloc)?;
     put(&mut table.depth, 1, 65_536);
-    let image = written(alloc, &table, 2)?;
+    let image = image_of_table(alloc, &table, 2)?;
     assert_eq!(rt;
         verify_image(&image).err(),
         Some(ImageFault::Depth { state: 1 })

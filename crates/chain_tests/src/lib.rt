@@ -1,4 +1,4 @@
-//! Tests of tables with chains of defaults, and of version 2 of images, and nothing else. A library with tests of its own would be
+//! Tests of tables with chains of defaults, and nothing else. A library with tests of its own would be
 //! proved twice, once with them; with the tests here, each of these libraries is proved once.
 #![tactic(auto)]
 
@@ -7,14 +7,12 @@ mod batches;
 #[cfg(test)]
 mod deep;
 #[cfg(test)]
-mod packing;
+mod pack;
 #[cfg(test)]
 mod profiles;
 #[cfg(test)]
 mod same_verdicts;
 #[cfg(test)]
 mod targets;
-#[cfg(test)]
-mod versions;
 #[cfg(test)]
 mod worked;

@@ -2,15 +2,15 @@
 ghost use Rattle.tables.specs.Bounds.{InBounds};
 ghost use Rattle.tables.specs.Tables.{table_value};
 
-use crate::profiles::{TEXTS, chained_of};
+use crate::profiles::chained_of;
 use matcher::{chained_table_of, table_of};
-use names::{Permission, Perms};
 use rule_text::{Profile, judge_slow, read};
 use std::alloc::Global;
 use std::process::Abort;
 use std::test::Fail;
 use table_image::{RawTable, to_bytes, to_bytes_v1};
 use table_verifier::{LoadedProfile, LookUps, Steps, VerifiedTable, judge, record_of_name};
+use test_parts::{PROFILE_TEXTS, perms_of};
 
 // A profile, and its tables from images: without depths in version 1 if that can hold them, and chained in version 2.
 #[derive(Drop)]
@@ -40,19 +40,6 @@ fn tables_of(alloc: Global, text: &[u8], most: u16) -> Result<Tables, Fail> {
         flat: LoadedProfile::make(alloc, &flat)?,
         chained: LoadedProfile::make(alloc, &chained)?,
     })
-}
-
-// The set of the permissions that stand for the ones in a number's binary digits.
-fn perms_of(number: u8) -> Perms {
-    let mut perms = Perms::NONE;
-    let mut left = number;
-    for permission in &Permission::ALL {
-        if left % 2 == 1 {
-            perms = perms.with(*permission);
-        }
-        left /= 2;
-    }
-    perms
 }
 
 impl Tables {
@@ -175,7 +162,7 @@ fn depth_4(rt: HostRuntime) -> Result<(), Fail> {
 
 // All names of at most three bytes.
 fn expect_same(rt: &impl Abort, alloc: Global, most: u16) -> Result<(), Fail> {
-    for text in &TEXTS {
+    for text in &PROFILE_TEXTS {
         let tables = tables_of(alloc, text, most)?;
         expect_short(rt, alloc, &tables, 259)?;
     }

@@ -1,11 +1,12 @@
 //! The targets of every state of a table, over its chains, next to the automaton's.
-use crate::profiles::{TEXTS, automaton_of, staircase, verified};
+use crate::profiles::{automaton_of, staircase, verified};
 use glob_automaton::Dfa;
 use std::alloc::Global;
 use std::process::Abort;
 use std::test::Fail;
 use table_image::{pack_chained, to_bytes};
 use table_verifier::{LookUps, Steps, VerifiedImage, VerifiedTable, verify_image};
+use test_parts::PROFILE_TEXTS;
 
 // A table with what it was packed from, and its image.
 #[derive(Clone, Copy)]
@@ -75,7 +76,7 @@ fn expect_targets(rt: &impl Abort, alloc: Global, text: &[u8], most: u16) -> Res
 
 #[test]
 fn targets(rt: HostRuntime) -> Result<(), Fail> {
-    for text in &TEXTS {
+    for text in &PROFILE_TEXTS {
         for most in [0, 1, 4, 16, 64] {
             expect_targets(&rt, rt.alloc(), text, most)?;
         }

@@ -12,39 +12,12 @@ use table_verifier::{
     LoadedProfile, LookUps, State, Steps, VerifiedImage, VerifiedTable, judge, judge_image, run,
     run_image, verify, verify_image,
 };
-
-// The magic, version 2, a bound of 1, and 3 states, 256 cells and 1 record.
-const HEADER: &[u8] = b"PTAB\x02\0\x01\0\x03\0\0\0\0\x01\0\0\x01\0\0\0";
-
-// The image of three states with these defaults and depths, which share a row of free cells and a record of no hits.
-fn image_of(alloc: Global, default: [u32; 3], depth: [u32; 3]) -> Result<Vec<u8>, Fail> {
-    let mut bytes = HEADER.to_vec(alloc)?;
-    push(&mut bytes, default)?;
-    push(&mut bytes, [0; 3])?;
-    push(&mut bytes, [0; 3])?;
-    push(&mut bytes, depth)?;
-    bytes.resize(1_092, 0)?;
-    bytes.resize(2_116, 255)?;
-    bytes.resize(2_140, 0)?;
-    Ok(bytes)
-}
-
-fn push(bytes: &mut Vec<u8>, numbers: [u32; 3]) -> Result<(), Fail> {
-    for number in &numbers {
-        bytes.extend_from_slice(&number.to_le_bytes())?;
-    }
-    Ok(())
-}
-
-/// The image of the smallest table with a chain.
-pub(crate) fn smallest(alloc: Global) -> Result<Vec<u8>, Fail> {
-    image_of(alloc, [0, 2, 0], [0, 1, 0])
-}
+use test_parts::{smallest_chained_image, three_states_image};
 
 #[test]
 fn read(rt: HostRuntime) -> Result<(), Fail> {
     let alloc = rt.alloc();
-    let table = from_bytes(alloc, &smallest(alloc)?)?;
+    let table = from_bytes(alloc, &smallest_chained_image(alloc)?)?;
     assert!(rt; table.default.as_slice() == [0, 2, 0].as_slice());
     assert!(rt; table.base.as_slice() == [0, 0, 0].as_slice());
     assert!(rt; table.accept.as_slice() == [0, 0, 0].as_slice());
@@ -58,7 +31,7 @@ fn read(rt: HostRuntime) -> Result<(), Fail> {
 #[test]
 fn written_again(rt: HostRuntime) -> Result<(), Fail> {
     let alloc = rt.alloc();
-    let image = smallest(alloc)?;
+    let image = smallest_chained_image(alloc)?;
     assert_eq!(rt; image.len(), 2_140);
     let again = to_bytes(alloc, &from_bytes(alloc, &image)?)?;
     assert!(rt; again == image);
@@ -68,7 +41,7 @@ fn written_again(rt: HostRuntime) -> Result<(), Fail> {
 #[test]
 fn counts(rt: HostRuntime) -> Result<(), Fail> {
     let alloc = rt.alloc();
-    let bytes = smallest(alloc)?;
+    let bytes = smallest_chained_image(alloc)?;
     let loaded = LoadedProfile::make(alloc, &bytes)?;
     let table = loaded.table();
     let found = (table.states(), table.cells(), table.records());
@@ -110,7 +83,7 @@ fn expect_run(rt: &impl Abort, table: &VerifiedTable, image: &VerifiedImage<'_>,
 #[test]
 fn names_run(rt: HostRuntime) -> Result<(), Fail> {
     let alloc = rt.alloc();
-    let bytes = smallest(alloc)?;
+    let bytes = smallest_chained_image(alloc)?;
     let loaded = LoadedProfile::make(alloc, &bytes)?;
     let image = verify_image(&bytes)?;
     for row in &RUNS {
@@ -122,7 +95,7 @@ fn names_run(rt: HostRuntime) -> Result<(), Fail> {
 #[test]
 fn names_judged(rt: HostRuntime) -> Result<(), Fail> {
     let alloc = rt.alloc();
-    let bytes = smallest(alloc)?;
+    let bytes = smallest_chained_image(alloc)?;
     let ask = Perms::NONE.with(Permission::Read);
     let want = Verdict::NoRule { missing: ask };
     let loaded = LoadedProfile::make(alloc, &bytes)?;
@@ -152,7 +125,7 @@ pub(crate) fn is_accepted(image: &[u8]) -> bool
 // What callers in C see: the steps are bytes, and the look-ups are not counted.
 #[test]
 fn names_judged_for_c(rt: HostRuntime) -> Result<(), Fail> {
-    let image = smallest(rt.alloc())?;
+    let image = smallest_chained_image(rt.alloc())?;
     let image = &image[..];
     assert!(rt; is_accepted(image));
     let mut answer = STALE;
@@ -206,7 +179,7 @@ fn fault_of(table: RawTable) -> Option<ImageFault> {
 
 fn expect_fault(rt: &impl Abort, alloc: Global, row: &Depths) -> Result<(), Fail> {
     let (default, depth, want) = *row;
-    let image = image_of(alloc, default, depth)?;
+    let image = three_states_image(alloc, default, depth)?;
     assert_eq!(rt; fault_of(from_bytes(alloc, &image)?), want);
     assert_eq!(rt; LoadedProfile::make(alloc, &image).err(), want);
     assert_eq!(rt; verify_image(&image).err(), want);
@@ -223,7 +196,7 @@ fn faults(rt: HostRuntime) -> Result<(), Fail> {
 
 #[test]
 fn faults_for_c(rt: HostRuntime) -> Result<(), Fail> {
-    let image = image_of(rt.alloc(), [0, 2, 0], [0, 1, 1])?;
+    let image = three_states_image(rt.alloc(), [0, 2, 0], [0, 1, 1])?;
     let want = Fault {
         number: 12,
         place: 1,

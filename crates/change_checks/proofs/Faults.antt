@@ -6,7 +6,7 @@ use Rattle.names.specs.declared.errors.Errno.{Errno}
 use Rattle.path_lookup.specs.declared.fault.WalkFault.{WalkFault}
 use Rattle.path_lookup.specs.declared.fault.WalkFault.TheVariants.{Refused, Torn}
 use Rattle.path_lookup.specs.World.{World}
-use Rattle.path_lookup.specs.Walking.{IsFault}
+use Rattle.path_lookup.specs.WalkFaults.{IsFault}
 
 -- a fault of one question is a fault of every question with the same answer
 fault_along : {X Y : Type 0} (lacks : Type 0) (sees : World → Type 0) (f : World → Result X Errno) (g : World → Result Y Errno)

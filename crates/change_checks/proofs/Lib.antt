@@ -1,4 +1,4 @@
 pub mod Faults
-pub mod Climbing
+pub mod Climbs
 pub mod Files
-pub mod Replacing
+pub mod Replacement

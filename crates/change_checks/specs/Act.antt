@@ -1,14 +1,14 @@
 -- What a change that passed its tests does to a tree.
 use Rattle.std.specs.Prelude.{◌≡◌, ◌≢◌, ℕ, ◌+◌, ◌≤◌, true, length, Some, None, IfSome}
 use Rattle.std.specs.Option.{option_map}
-use Rattle.names.specs.declared.paths.TheConstants.{LONGEST_COMPONENT}
+use Rattle.names.specs.declared.limits.TheConstants.{LONGEST_COMPONENT}
 use Rattle.directory_tree.specs.declared.node.Kind.TheVariants as kind
 use Rattle.directory_tree.specs.declared.node.NodeKind.{NodeKind}
 use Rattle.directory_tree.specs.declared.node.NodeKind.TheVariants.{Directory, File, Link}
 use Rattle.directory_tree.specs.Tree.{Tree, find, is_empty}
 use Rattle.directory_tree.specs.Walk.{Spot}
 use Rattle.directory_tree.specs.Spots.{shape_of, node_at, kind_at, child_of}
-use Rattle.directory_tree.specs.Apply.{entry, with_entry, dropped, moved, has_room, max_text}
+use Rattle.directory_tree.specs.Apply.{entry, with_entry, dropped, moved, has_room, longest_link_text}
 use Rattle.change_checks.specs.declared.place.Place.{Place}
 use Rattle.change_checks.specs.declared.act.NewNode.{NewNode}
 use Rattle.change_checks.specs.declared.act.NewNode.TheVariants as new
@@ -76,7 +76,7 @@ NamesOnly P act.Nothing = Unit {0}
 abbrev pub FitsNode : NewNode → Type 0
 FitsNode new.Directory = Unit {0}
 FitsNode new.File = Unit {0}
-FitsNode (new.Link text) = length text.now ≤ max_text
+FitsNode (new.Link text) = length text.now ≤ longest_link_text
 
 -- a new entry's component, and the text of a new link, are short
 abbrev pub Fits : {E : Type 0} → Act E → Type 0

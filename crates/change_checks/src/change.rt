@@ -3,7 +3,7 @@ ghost use Rattle.std.specs.Prelude.{◌≡◌, IfOk, IfErr, Ok};
 ghost use Rattle.directory_tree.specs.Apply.{apply, at_one, and_then, text_of, make, has_room};
 ghost use Rattle.directory_tree.specs.declared.node.NodeKind.TheVariants.{Link};
 ghost use Rattle.path_lookup.specs.Target.{target_for};
-ghost use Rattle.path_lookup.specs.Walking.{IsFault};
+ghost use Rattle.path_lookup.specs.WalkFaults.{IsFault};
 ghost use Rattle.path_lookup.specs.World.{World, Narrows};
 ghost use Rattle.change_checks.specs.Act.{acted, IsTested, NamesOnly, Fits};
 
@@ -18,7 +18,7 @@ use names::Path;
 use path_lookup::{EndSlash, Look, WalkFault};
 
 /// Tests a change of a tree: what it would do, or with which error number it is refused, whatever tree is seen. Nothing is
-/// changed, and no memory is taken.
+/// changed, and nothing is allocated.
 pub fn check_change<'a, L: ChangeLook>(
     look: &mut L,
     change: &Change<'a>,

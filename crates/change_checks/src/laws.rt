@@ -1,14 +1,14 @@
 //! Laws of the tests of a change. The functions do nothing: each stands for its contract.
 ghost use Rattle.std.specs.Prelude.{◌≡◌, ◌<◌, ℕ, false, length, Ok, Some};
 ghost use Rattle.names.specs.declared.errors.Errno.{Errno};
-ghost use Rattle.names.specs.declared.paths.TheConstants.{LONGEST_COMPONENT};
+ghost use Rattle.names.specs.declared.limits.TheConstants.{LONGEST_COMPONENT};
 ghost use Rattle.directory_tree.specs.Apply.{Changed, has_room};
 ghost use Rattle.directory_tree.specs.Spots.{node_at, kind_at, shape_of};
 ghost use Rattle.directory_tree.specs.Tree.{Entry, Tree, find, is_empty};
 ghost use Rattle.directory_tree.specs.Walk.{Spot};
 ghost use Rattle.directory_tree.specs.declared.node.Kind.TheVariants as kind;
 ghost use Rattle.directory_tree.specs.declared.node.NodeKind.TheVariants.{Directory};
-ghost use Rattle.path_lookup.specs.Walking.{IsFault};
+ghost use Rattle.path_lookup.specs.WalkFaults.{IsFault};
 ghost use Rattle.path_lookup.specs.World.{World};
 ghost use Rattle.path_lookup.specs.declared.fault.WalkFault.TheVariants.{Refused};
 ghost use Rattle.change_checks.specs.Act.{Fits, IsTested, number_in};
@@ -29,8 +29,8 @@ pub fn changes_have_one_answer<L: ChangeLook>()
         changed w ≡ Ok t → IsFault (L.lacks look) (L.sees look) changed (Refused errno) → ⊥ }
 {}
 
-/// What the tests let through makes no second entry at a place, exceeds no limit, gives no directory a second entry, and takes
-/// away no directory that has entries.
+/// What the tests let through makes no second entry at a place, exceeds no limit, gives no directory a second entry, and removes
+/// no directory that has entries.
 pub fn tested_acts_are_allowed<E: Copy>()
     ensures second_entry { (means : E → Spot) (t : Tree) (capacity : ℕ) (place : Place E) (node : NewNode) (e : Entry) →
         find t.entries (number_in means t place) place.component.now ≡ Some e → IsTested means t capacity (act.Make place node) → ⊥ }

@@ -4,7 +4,7 @@ ghost use Rattle.directory_tree.specs.declared.node.Kind.TheVariants as kind;
 ghost use Rattle.directory_tree.specs.Apply.{Changed, at_one, at_two};
 ghost use Rattle.directory_tree.specs.Spots.{shape_of, node_at, kind_at};
 ghost use Rattle.path_lookup.specs.Target.{target_for};
-ghost use Rattle.path_lookup.specs.Walking.{IsFault};
+ghost use Rattle.path_lookup.specs.WalkFaults.{IsFault};
 ghost use Rattle.path_lookup.specs.World.{World, Narrows};
 
 use names::{Errno, LONGEST_COMPONENT, Path};

@@ -2,7 +2,7 @@
 ghost use Rattle.std.specs.Prelude.{◌≡◌, IfOk, IfErr, Ok};
 ghost use Rattle.directory_tree.specs.Apply.{unlink, rmdir, at_one};
 ghost use Rattle.path_lookup.specs.Target.{target_for};
-ghost use Rattle.path_lookup.specs.Walking.{IsFault};
+ghost use Rattle.path_lookup.specs.WalkFaults.{IsFault};
 ghost use Rattle.path_lookup.specs.World.{World, Narrows};
 ghost use Rattle.change_checks.specs.Act.{acted, IsTested, NamesOnly, Fits};
 

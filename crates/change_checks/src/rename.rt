@@ -6,7 +6,7 @@ ghost use Rattle.directory_tree.specs.Apply.{Changed, rename, onto_kind, at_two}
 ghost use Rattle.directory_tree.specs.Walk.Spot.{Held};
 ghost use Rattle.directory_tree.specs.Spots.{shape_of, node_at, kind_at, child_of};
 ghost use Rattle.path_lookup.specs.Target.{target_for};
-ghost use Rattle.path_lookup.specs.Walking.{IsFault};
+ghost use Rattle.path_lookup.specs.WalkFaults.{IsFault};
 ghost use Rattle.path_lookup.specs.World.{World, Narrows, IsTorn};
 ghost use Rattle.change_checks.specs.Act.{acted, IsTested, NamesOnly, Fits};
 

@@ -6,7 +6,7 @@ ghost use Rattle.directory_tree.specs.Tree.{Entry, find};
 ghost use Rattle.directory_tree.specs.Apply.{make, link, link_to, at_one, at_two, has_room};
 ghost use Rattle.directory_tree.specs.Spots.{node_at, kind_at, child_of};
 ghost use Rattle.path_lookup.specs.Target.{target_for};
-ghost use Rattle.path_lookup.specs.Walking.{IsFault};
+ghost use Rattle.path_lookup.specs.WalkFaults.{IsFault};
 ghost use Rattle.path_lookup.specs.World.{World, Narrows};
 ghost use Rattle.change_checks.specs.Act.{kind_of_new, acted, IsTested, NamesOnly, Fits, FitsNode};
 

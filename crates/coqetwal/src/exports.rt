@@ -1,11 +1,11 @@
-//! The functions that C calls. None takes memory.
+//! The functions that C calls. None allocates memory.
 ghost use Rattle.image_judge.specs.Answers.{IsAnswerOf, IsCountsOf, IsNoneOrLoaded, IsVerified};
 ghost use Rattle.image_judge.specs.Batches.{AreAnswersOf};
 ghost use Rattle.image_judge.specs.Sets.{set_of_number};
 
 use image_judge::{Answer, Counts, Fault, count, judge, judge_all, verify};
 
-/// Accepts an image whose tables no index leaves, whoever made it; else its first fault.
+/// Accepts an image from any source whose tables no index leaves; else its first fault.
 #[unsafe(no_mangle)]
 pub extern "C" fn coqetwal_image_verify(image: &[u8]) -> Fault
     ensures { IsVerified image.now result }
@@ -31,7 +31,7 @@ pub extern "C" fn coqetwal_image_judge(image: &[u8], name: &[u8], asked: u32, an
     judge(image, name, asked, answer)
 }
 
-/// What an image that was accepted says of a name for each answer. The names stand in one text, each from an offset to the next
+/// What an image that was accepted says of a name for each answer. The names are in one text, each from an offset to the next
 /// one. Where there are no two such offsets, or they descend or leave the text, nothing is judged.
 #[unsafe(no_mangle)]
 pub extern "C" fn coqetwal_image_judge_all(

@@ -1,7 +1,7 @@
 pub mod RowSteps
-pub mod Setting
-pub mod Keeping
+pub mod SetCells
+pub mod KeeperParts
 pub mod First
-pub mod Seeing
+pub mod SeenWalks
 pub mod Writers
 pub mod Tallied

@@ -19,7 +19,7 @@ use Rattle.row_rule.proofs.WalkerSteps as walker
 use Rattle.row_rule.proofs.KeeperSteps as keeper
 use Rattle.row_rule.proofs.Meetings as meeting_of
 use Rattle.row_plan.specs.Changes.{EncodesChanges}
-use Rattle.dentry_cache.proofs.Seeing.{sees_after}
+use Rattle.dentry_cache.proofs.SeenWalks.{sees_after}
 use Rattle.dentry_cache.specs.Seats.{Mine, walker_of, keeper_of, walking, keeping, IsWalking, IsKeeping}
 use Rattle.dentry_cache.specs.Told.{KeepsRule, HasEntered, HasBegun, HasRead, HasEnded, HasLooked, HasOpened, HasSet, HasClosed, lent_view}
 use Rattle.dentry_cache.specs.Told.{met_view, IsTold}

@@ -9,14 +9,14 @@ use Rattle.tree_row.specs.OpeningRow.{opening_row}
 use Rattle.tree_row.specs.Questions.{FreeIn, IsFirstFree, NoneFreeBefore}
 use Rattle.row_rule.specs.declared.cell.Cell.{Cell}
 use Rattle.row_rule.specs.Row.{write}
-use Rattle.row_rule.proofs.Writing.{length_write}
+use Rattle.row_rule.proofs.Writes.{length_write}
 use Rattle.row_tally.specs.declared.note.Note.{Note}
 use Rattle.row_tally.specs.Tally.{IsTallyOf}
 use Rattle.dentry_cache.specs.Seats.{Mine, keeper_of}
 use Rattle.dentry_cache.specs.Told.{first_view}
 use Rattle.dentry_cache.specs.Models.{Held}
-use Rattle.dentry_cache.specs.inner.Knowing.{RowSeat, held, IsPlanned}
-use Rattle.dentry_cache.proofs.Setting.{set_next}
+use Rattle.dentry_cache.specs.inner.Knowledge.{RowSeat, held, IsPlanned}
+use Rattle.dentry_cache.proofs.SetCells.{set_next}
 
 -- one more cell is set
 pub follows_next : (capacity : ℕ) (row : List ℕ) (plan : List Cell) (i : ℕ) (other : Cell) (tally tally' : List Note) →

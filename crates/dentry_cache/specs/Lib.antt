@@ -2,5 +2,5 @@ pub mod Seats
 pub mod Told
 pub mod Models
 pub mod Walks
-pub mod Lending
+pub mod LentLooks
 pub mod inner

@@ -1,2 +1,2 @@
 -- Definitions for private contracts and proofs only.
-pub mod Knowing
+pub mod Knowledge

@@ -5,7 +5,7 @@ ghost use Rattle.tree_row.specs.OpeningRow.{opening_row};
 ghost use Rattle.row_rule.specs.Steps.{newcomer};
 ghost use Rattle.dentry_cache.specs.Models.{Makes, IsStopped, Accepts, Refuses, Hinders};
 ghost use Rattle.dentry_cache.specs.Walks.{met_at};
-ghost use Rattle.dentry_cache.specs.inner.Knowing.{IsPlanned};
+ghost use Rattle.dentry_cache.specs.inner.Knowledge.{IsPlanned};
 
 use crate::kept_row::KeptRow;
 use crate::refusal::NoSeat;
@@ -78,7 +78,7 @@ impl Keeper {
         Ok(self.look.cells.make(change, &plan))
     }
 
-    /// Opens a change, sets the first `set` cells of its plan, or all if there are fewer, and stops there for good, like a keeper
+    /// Opens a change, sets the first `set` cells of its plan, or all if there are fewer, and stops there permanently, like a keeper
     /// whose thread ends in the middle of a change. If the change is refused, the keeper is returned as it was. A walk that reads
     /// the count after this is busy, as the tests show; its walker has to be made before.
     pub fn stop_amid(

@@ -7,18 +7,18 @@ ghost use Rattle.tree_row.specs.OpeningRow.{opening_row};
 ghost use Rattle.row_rule.specs.Steps.{newcomer};
 ghost use Rattle.dentry_cache.specs.Models.{Makes, IsStopped, Refuses, SeesHistory};
 ghost use Rattle.dentry_cache.specs.Walks.{met_at};
-ghost use Rattle.dentry_cache.specs.inner.Knowing.{Countable, IsPlanned};
+ghost use Rattle.dentry_cache.specs.inner.Knowledge.{Countable, IsPlanned};
 
-use crate::changing::{begin, perform};
+use crate::changes::{begin, perform};
 use crate::refusal::NoSeat;
 use crate::rule::{RowSeat, RowTable};
 use crate::steps;
 use crate::stopped::StoppedKeeper;
-use crate::tallying::follow;
+use crate::tally::follow;
 use crate::walker::Walker;
 use atomic_table::Table;
 use directory_tree::Change;
-use names::{Errno, NoMemory};
+use names::{Errno, MOST_CHANGES, NoMemory};
 use row_index::index_length;
 use row_plan::next_after;
 use row_rule::Cell;
@@ -27,9 +27,6 @@ use std::alloc::Global;
 use std::marker::Model;
 use std::sync::Arc;
 use tree_row::{Cells, MOST_ENTRIES, SLOT_LENGTH};
-
-/// The maximum number of changes that are counted: 2^60 - 1.
-const MOST_CHANGES: u64 = 1152921504606846975;
 
 /// The row with the seat of its keeper, which knows all its cells. Contracts see it as its table, the row's capacity, the
 /// changes made, and the cells.
@@ -51,7 +48,7 @@ impl Model for KeptRow {
     ghost use Rattle.dentry_cache.specs.Models.{Held};
     ghost use Rattle.row_tally.specs.Tally.{IsTallyOf};
     ghost use Rattle.dentry_cache.specs.Seats.{keeper_of};
-    ghost use Rattle.dentry_cache.specs.inner.Knowing.{held, KeeperKnows};
+    ghost use Rattle.dentry_cache.specs.inner.Knowledge.{held, KeeperKnows};
 
     ghost Value = { Held };
 
@@ -121,7 +118,7 @@ impl KeptRow {
         self.version
     }
 
-    /// Begins a change, and stops there for good.
+    /// Begins a change, and stops there permanently.
     pub(crate) fn stop_amid(self, change: &Change<'_>, plan: &[Cell], set: usize) -> StoppedKeeper
         requires { IsPlanned self change.now plan.now }
         ensures { IsStopped self change.now set result }

@@ -6,16 +6,16 @@
 //! contracts and proofs. Opens concurrently with the keeper cite `specs/Walks.antt` alone.
 #![tactic(auto)]
 
-mod changing;
+mod changes;
 mod keeper;
 mod kept_row;
 mod laws;
-mod looking;
+mod look;
 mod refusal;
 mod rule;
 mod steps;
 mod stopped;
-mod tallying;
+mod tally;
 mod walker;
 
 pub use keeper::{Keeper, KeeperLook};

@@ -1,6 +1,6 @@
 //! What is left of a keeper that stopped in the middle of a change.
 ghost use Rattle.std.specs.Prelude.{◌≡◌};
-ghost use Rattle.dentry_cache.specs.inner.Knowing.{stopped_at};
+ghost use Rattle.dentry_cache.specs.inner.Knowledge.{stopped_at};
 
 use crate::rule::{RowSeat, RowTable};
 use std::marker::Model;
@@ -17,7 +17,7 @@ pub struct StoppedKeeper {
 
 impl Model for StoppedKeeper {
     ghost use Rattle.dentry_cache.specs.Models.{Stopped};
-    ghost use Rattle.dentry_cache.specs.inner.Knowing.{stopped_at};
+    ghost use Rattle.dentry_cache.specs.inner.Knowledge.{stopped_at};
 
     ghost Value = { Stopped };
 

@@ -5,7 +5,7 @@ ghost use Rattle.tree_row.specs.Rows.{row_length};
 ghost use Rattle.row_rule.specs.Steps.{beginning, reading, ending, Sees};
 ghost use Rattle.dentry_cache.specs.Seats.{walker_of, IsWalking};
 ghost use Rattle.dentry_cache.specs.Told.{SeesAfter};
-ghost use Rattle.dentry_cache.specs.inner.Knowing.{walk, WalkerKnows};
+ghost use Rattle.dentry_cache.specs.inner.Knowledge.{walk, WalkerKnows};
 
 use crate::rule::{RowSeat, RowTable};
 use crate::steps;
@@ -26,7 +26,7 @@ pub struct Walker {
 impl Model for Walker {
     ghost use Rattle.std.specs.Arc.{arc_value};
     ghost use Rattle.dentry_cache.specs.Walks.{Walk};
-    ghost use Rattle.dentry_cache.specs.inner.Knowing.{walk, WalkerKnows};
+    ghost use Rattle.dentry_cache.specs.inner.Knowledge.{walk, WalkerKnows};
 
     ghost Value = { Walk };
 
@@ -50,10 +50,10 @@ pub struct Attempt {
 impl Model for Attempt {
     ghost use Rattle.std.specs.Prelude.{◌≡◌};
     ghost use Rattle.std.specs.Arc.{arc_value};
-    ghost use Rattle.tree_row.specs.Finding.{IsIndexOf};
+    ghost use Rattle.tree_row.specs.Search.{IsIndexOf};
     ghost use Rattle.dentry_cache.specs.Walks.{Walk};
     ghost use Rattle.dentry_cache.specs.Seats.{walker_of};
-    ghost use Rattle.dentry_cache.specs.inner.Knowing.{walk, WalkerKnows};
+    ghost use Rattle.dentry_cache.specs.inner.Knowledge.{walk, WalkerKnows};
 
     ghost Value = { Walk };
 

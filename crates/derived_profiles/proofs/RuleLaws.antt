@@ -9,7 +9,7 @@ use Rattle.std.proofs.lemmas.List.Folds.{list_all-append}
 use Rattle.std.specs.List.{list_all}
 use Rattle.rule_globs.specs.Rules.{RuleValue, ProfileValue}
 use Rattle.rule_profile.specs.declared.profile.Rule.{Rule}
-use Rattle.rule_profile.specs.Limits.{max_rules}
+use Rattle.rule_profile.specs.Limits.{most_rules}
 use Rattle.rule_profile.specs.Profile.{rule_value}
 use Rattle.rule_profile.specs.Readable.{is_name, is_rule, is_profile}
 use Rattle.derived_profiles.specs.Derived.{with_rules, is_allow, allowing, reversed, allow_rules, alone}
@@ -64,18 +64,18 @@ rule_is (x ∷ rules) (suc i) rule lt e h =
 -- ---- a profile
 
 pub rules_are : (p : ProfileValue) → is_profile p ≡ true → list_all is_rule p.rules ≡ true
-rules_are p h = (and_parts (is_name p.name && nat_le (length p.rules) max_rules) (list_all is_rule p.rules) h).1
+rules_are p h = (and_parts (is_name p.name && nat_le (length p.rules) most_rules) (list_all is_rule p.rules) h).1
 
 -- no more rules than there are
 other_rules : (p : ProfileValue) (rules : List RuleValue) → is_profile p ≡ true → length rules ≤ length p.rules →
     list_all is_rule rules ≡ true → is_profile (with_rules p rules) ≡ true
 other_rules p rules h few each =
-    let named = and_parts (is_name p.name) (nat_le (length p.rules) max_rules)
-    (and_parts (is_name p.name && nat_le (length p.rules) max_rules) (list_all is_rule p.rules) h).0 in
-    let fewer : nat_le (length rules) max_rules ≡ true =
-    le-leb (length rules) max_rules (omega (arith, few, leb-true (length p.rules) max_rules named.1)) in
-    and_from (is_name p.name && nat_le (length rules) max_rules) (list_all is_rule rules)
-    (and_from (is_name p.name) (nat_le (length rules) max_rules) named.0 fewer) each
+    let named = and_parts (is_name p.name) (nat_le (length p.rules) most_rules)
+    (and_parts (is_name p.name && nat_le (length p.rules) most_rules) (list_all is_rule p.rules) h).0 in
+    let fewer : nat_le (length rules) most_rules ≡ true =
+    le-leb (length rules) most_rules (omega (arith, few, leb-true (length p.rules) most_rules named.1)) in
+    and_from (is_name p.name && nat_le (length rules) most_rules) (list_all is_rule rules)
+    (and_from (is_name p.name) (nat_le (length rules) most_rules) named.0 fewer) each
 
 pub reversed_is : (p : ProfileValue) → is_profile p ≡ true → is_profile (reversed p) ≡ true
 reversed_is p h =

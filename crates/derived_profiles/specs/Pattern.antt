@@ -1,4 +1,4 @@
--- The profile that allows to read what a pattern takes.
+-- The profile that allows to read what a pattern matches.
 use Rattle.std.specs.Prelude.{ℕ, List, [], ◌∷◌, Option, Some, None, codes, option_and_then, option_map, if◌then◌else◌}
 use Rattle.names.specs.declared.kind.RuleKind.TheVariants.{Allow}
 use Rattle.names.specs.declared.permissions.Permission.TheVariants.{Read}
@@ -12,7 +12,7 @@ use Rattle.rule_reader.specs.PathText.{text_tokens}
 abbrev pub pattern_path : List ℕ → Option (List Token)
 pattern_path text = option_and_then (λ path. if is_path path then Some path else None) (text_tokens text)
 
--- to read what the path takes is allowed
+-- to read what the path matches is allowed
 abbrev pub read_rule : List Token → RuleValue
 read_rule path = record { kind = Allow; perms = only Read; items = path }
 

@@ -1,5 +1,5 @@
 //! Profiles that are made of the rules of another: in reverse order, one rule alone, the allow rules, none; and the profile that
-//! allows to read what a pattern takes.
+//! allows to read what a pattern matches.
 //!
 //! The definitions to believe are those in `specs/`.
 #![tactic(auto)]

@@ -6,13 +6,13 @@ ghost use Rattle.derived_profiles.specs.Pattern.{pattern_path, of_pattern, profi
 
 use crate::profiles::{one_rule, profile_with};
 use names::{NoMemory, Permission, Perms, RuleKind};
-use profile_parts::path_of;
 use rule_globs::RulePath;
+use rule_making::path_of;
 use rule_profile::{Profile, Rule};
 use rule_reader::read_path;
 use std::alloc::Global;
 
-/// The profile whose one rule allows to read the names that a pattern takes: the text is the path of a rule, as it is written
+/// The profile whose one rule allows to read the names that a pattern matches: the text is the path of a rule, as it is written
 /// within quotes, and begins with a slash. None exactly if it is no such path. The profile's name is `pattern`.
 pub fn of_pattern(alloc: Global, text: &[u8]) -> Result<Option<Profile>, NoMemory>
     ensures { IfOk result (λ found. option_map profile_value found ≡ of_pattern text.now) }

@@ -7,7 +7,7 @@ ghost use Rattle.rule_profile.specs.Readable.{is_rule, is_profile};
 ghost use Rattle.derived_profiles.specs.Derived.{is_allow, reversed, allow_rules, alone, without_rules};
 
 use names::{NoMemory, RuleKind};
-use profile_parts::copy_of;
+use rule_making::copy_of;
 use rule_profile::{Profile, Rule};
 use std::alloc::Global;
 

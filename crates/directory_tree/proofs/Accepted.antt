@@ -8,8 +8,8 @@ use Rattle.directory_tree.specs.Moves.{IsMove}
 use Rattle.directory_tree.specs.Apply.{entry, without, place_one, moved, goes_below, onto_kind, rename, rename_from, rename_onto}
 use Rattle.directory_tree.proofs.Found.{found_at, at_once, is_at-same, Apart, find-placed_else, find-without_other}
 use Rattle.directory_tree.proofs.Basics.{some_inj, none_is_some, ok_inj, err_is_ok, true_is_false}
-use Rattle.directory_tree.proofs.Standing.{own_key}
-use Rattle.directory_tree.proofs.Placing.{key_apart, after_moved}
+use Rattle.directory_tree.proofs.Presence.{own_key}
+use Rattle.directory_tree.proofs.Placement.{key_apart, after_moved}
 
 -- a directory that was at the new place was empty
 abbrev pub Loose : Tree → ℕ → List ℕ → Type 0

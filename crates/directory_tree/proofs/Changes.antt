@@ -17,13 +17,13 @@ use Rattle.directory_tree.specs.Walk.{Spot, resolve, max_links}
 use Rattle.directory_tree.specs.Walk.Spot.{Root, Held}
 use Rattle.directory_tree.specs.Apply.{Changed, Target, and_then, make, link, unlink, rmdir, rename, target_from, is_dots, tested}
 use Rattle.directory_tree.specs.Apply.{target_of, directory_target, other_target, directory_at, parent_of, at_one, at_two, text_of, apply}
-use Rattle.directory_tree.specs.Apply.{apply_counted, max_changes, has_room, after_from, tree_after}
+use Rattle.directory_tree.specs.Apply.{apply_counted, most_changes, has_room, after_from, tree_after}
 use Rattle.directory_tree.proofs.Basics.{none_is_some, ok_inj, err_is_ok, both_false}
 use Rattle.directory_tree.proofs.Texts.{filled_is}
-use Rattle.directory_tree.proofs.Standing.{Stands, placed_at, resolve_stands}
+use Rattle.directory_tree.proofs.Presence.{Stands, placed_at, resolve_stands}
 use Rattle.directory_tree.proofs.Kept.{make_keeps, link_keeps}
-use Rattle.directory_tree.proofs.Dropping.{unlink_keeps, rmdir_keeps}
-use Rattle.directory_tree.proofs.Renaming.{rename_keeps}
+use Rattle.directory_tree.proofs.Drops.{unlink_keeps, rmdir_keeps}
+use Rattle.directory_tree.proofs.Renames.{rename_keeps}
 
 pub and_then_inv : {X Y : Type 0} (r : Result X Errno) (next : X → Result Y Errno) (y : Y) → and_then r next ≡ Ok y →
     (x : X) × (r ≡ Ok x) × (next x ≡ Ok y)
@@ -173,7 +173,7 @@ after_keeps capacity count [] t u well h = subst WellFormed (ok_inj t u h) well
 after_keeps capacity count (c ∷ cs) t u well h =
     let (v, is, rest) = and_then_inv (apply_counted capacity count t c) (λ (v : Tree). after_from capacity (count + 1) v cs) u h in
     after_keeps capacity (count + 1) cs v u
-    (elim (nat_lt count max_changes) as (λ (k : Bool). (if k then apply t (has_room capacity t) c else Err EOVERFLOW) ≡ Ok v →
+    (elim (nat_lt count most_changes) as (λ (k : Bool). (if k then apply t (has_room capacity t) c else Err EOVERFLOW) ≡ Ok v →
     WellFormed v) [
       | true ↦ λ q. apply_keeps t v (has_room capacity t) c well q
       | false ↦ λ q. absurd (err_is_ok EOVERFLOW v q)

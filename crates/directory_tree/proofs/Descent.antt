@@ -5,8 +5,8 @@ use Rattle.std.specs.Prelude.{if◌then◌else◌}
 use Rattle.directory_tree.specs.Tree.{Tree, Entry, WellFormed, root, find, own_entry, is_below, is_directory}
 use Rattle.directory_tree.proofs.Found.{found_at}
 use Rattle.directory_tree.proofs.Depth.{Deep, deep, one_depth}
-use Rattle.directory_tree.proofs.Standing.{placed_at}
-use Rattle.directory_tree.proofs.Placing.{root_nowhere}
+use Rattle.directory_tree.proofs.Presence.{placed_at}
+use Rattle.directory_tree.proofs.Placement.{root_nowhere}
 
 module _ (t : Tree) (well : WellFormed t) (low m : ℕ) (deep_low : Deep t.entries m low) where
   -- what this many steps up from the directory of an entry say

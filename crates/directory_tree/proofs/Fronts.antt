@@ -12,10 +12,10 @@ use Rattle.directory_tree.proofs.Basics.{some_inj, none_is_some, true_is_false}
 use Rattle.directory_tree.proofs.Found.{found_at, empty_none, Apart}
 use Rattle.directory_tree.proofs.Walks.{own_entry_found}
 use Rattle.directory_tree.proofs.Depth.{Deep, shallow}
-use Rattle.directory_tree.proofs.Dropping.{HasEntry}
-use Rattle.directory_tree.proofs.Moving.{Avoids}
-use Rattle.directory_tree.proofs.Standing.{placed_at}
-use Rattle.directory_tree.proofs.Placing.{is_gone, node_same, gone_found, own_entry_moved, find_new}
+use Rattle.directory_tree.proofs.Drops.{HasEntry}
+use Rattle.directory_tree.proofs.Moves.{Avoids}
+use Rattle.directory_tree.proofs.Presence.{placed_at}
+use Rattle.directory_tree.proofs.Placement.{is_gone, node_same, gone_found, own_entry_moved, find_new}
 use Rattle.directory_tree.proofs.Depth.{up_deep}
 use Rattle.directory_tree.proofs.Accepted.{Loose}
 

@@ -15,9 +15,9 @@ use Rattle.directory_tree.specs.Apply.{directory_target, other_target, text_of, 
 use Rattle.directory_tree.proofs.Accepted.{gives_way}
 use Rattle.directory_tree.proofs.Basics.{some_inj, none_is_some, ok_inj, err_is_ok, true_is_false}
 use Rattle.directory_tree.proofs.Found.{Apart}
-use Rattle.directory_tree.proofs.Dropping.{without_old}
-use Rattle.directory_tree.proofs.Acting.{acts_one, acts_two}
-use Rattle.directory_tree.proofs.Placing.{is_key, find_entered, after_moved}
+use Rattle.directory_tree.proofs.Drops.{without_old}
+use Rattle.directory_tree.proofs.Actions.{acts_one, acts_two}
+use Rattle.directory_tree.proofs.Placement.{is_key, find_entered, after_moved}
 
 -- The tree has an entry of this node and kind.
 abbrev pub HasNode : Tree → ℕ → NodeKind → Type 0

@@ -19,9 +19,9 @@ use Rattle.directory_tree.proofs.Basics.{ok_inj, err_is_ok, true_is_false}
 use Rattle.directory_tree.proofs.Found.{find-append_old}
 use Rattle.directory_tree.proofs.Depth.{deep, shallow}
 use Rattle.directory_tree.proofs.Depth.{up_deep}
-use Rattle.directory_tree.proofs.Standing.{placed_at}
+use Rattle.directory_tree.proofs.Presence.{placed_at}
 use Rattle.directory_tree.proofs.Walks.{own_entry_found}
-use Rattle.directory_tree.proofs.Standing.{spot_node}
+use Rattle.directory_tree.proofs.Presence.{spot_node}
 
 -- what was there is still there, and the places of directories are the same
 pub record IsGrown (t u : Tree) : Type 0 where

@@ -10,12 +10,12 @@ use Rattle.directory_tree.specs.Name.{name_of, directory_name}
 use Rattle.directory_tree.specs.Place.{place_name}
 use Rattle.directory_tree.specs.Moves.{IsWithin, IsMove, StandsAt}
 use Rattle.directory_tree.specs.Apply.{entry, moved, rename, goes_below, place_one}
-use Rattle.directory_tree.proofs.Renaming.{climbs}
+use Rattle.directory_tree.proofs.Renames.{climbs}
 use Rattle.directory_tree.proofs.Basics.{true_is_false, both_true}
 use Rattle.directory_tree.proofs.Found.{found_at, is_at-same, Apart}
 use Rattle.directory_tree.proofs.Depth.{deep}
-use Rattle.directory_tree.proofs.Renaming.{rename_keeps}
-use Rattle.directory_tree.proofs.Placing.{is_gone, find_new}
+use Rattle.directory_tree.proofs.Renames.{rename_keeps}
+use Rattle.directory_tree.proofs.Placement.{is_gone, find_new}
 use Rattle.directory_tree.proofs.Accepted.{Loose, accepted, own_entry_other, own_entry_old, at_old, found_still, found_before}
 use Rattle.directory_tree.proofs.Fronts.{kept_there, far_name, near_name}
 

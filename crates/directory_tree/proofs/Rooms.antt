@@ -13,7 +13,7 @@ use Rattle.directory_tree.specs.Tree.{Tree, Entry, root_alone, find, is_at, is_d
 use Rattle.directory_tree.specs.Apply.{Changed, Target, and_then, entry, with_entry, make_at, make, is_file, link_to, link_from, link}
 use Rattle.directory_tree.specs.Apply.{without, dropped, unlink_at, unlink, rmdir_at, rmdir, placed, moved, goes_below, onto_kind}
 use Rattle.directory_tree.specs.Apply.{rename_onto, rename_from, rename, parent_of, text_of, directory_target, other_target, at_one}
-use Rattle.directory_tree.specs.Apply.{at_two, apply, max_changes, has_room, after_from, tree_after}
+use Rattle.directory_tree.specs.Apply.{at_two, apply, most_changes, has_room, after_from, tree_after}
 use Rattle.directory_tree.proofs.Basics.{ok_inj, err_is_ok}
 
 abbrev good : Tree → Changed
@@ -204,7 +204,7 @@ all_room : (n capacity count : ℕ) (t : Tree) (cs : List Change) (u : Tree) →
     after_from capacity count t cs ≡ Ok u → after_from n count t cs ≡ Ok u
 all_room n capacity count t [] u low fits h = h
 all_room n capacity count t (c ∷ cs) u low fits h =
-    by (nat_lt count max_changes) (apply t (has_room capacity t) c) refl (λ v more k. all_room n capacity (count + 1) v cs u (omega arith)
+    by (nat_lt count most_changes) (apply t (has_room capacity t) c) refl (λ v more k. all_room n capacity (count + 1) v cs u (omega arith)
     (omega arith) k) h where
       roomy : has_room n t ≡ true
       roomy = lt-ltb (length t.entries) n (omega arith)

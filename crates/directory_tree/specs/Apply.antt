@@ -1,5 +1,6 @@
 -- What a change makes of a tree, or why it is refused (mkdir(2), open(2), symlink(2), link(2), unlink(2), rmdir(2),
 -- rename(2)). The order of the tests is our choice; the first that holds is the answer.
+pub use Rattle.names.specs.Limits.{longest_link_text, most_changes}
 use Rattle.std.specs.Prelude.{ℕ, ◌+◌, ◌==◌, ◌&&◌, ◌||◌, Bool, true, false, not, List, [], ◌∷◌, ◌++◌, map, length, Option, Some, None}
 use Rattle.std.specs.Prelude.{Result, Ok, Err, nat_lt, if◌then◌else◌, bytes_eq}
 use Rattle.std.specs.List.{list_any}
@@ -161,14 +162,11 @@ at_two t old new act =
     and_then old (λ a. and_then new (λ b. and_then (parent_of t a) (λ d. and_then (parent_of t b) (λ into. act d a.last into b.last))))
 
 -- the text of a link: not empty, no byte 0, and not too long (symlink(2); the limits and byte 0 are our choice)
-abbrev pub max_text : ℕ
-max_text = 1023
-
 abbrev pub text_of : List ℕ → Result (List ℕ) Errno
 text_of text =
     if not (is_filled text) then Err ENOENT
     else (if list_any (λ b. b == 0) text then Err EINVAL
-    else (if nat_lt max_text (length text) || has_long_component text then Err ENAMETOOLONG
+    else (if nat_lt longest_link_text (length text) || has_long_component text then Err ENAMETOOLONG
     else Ok text))
 
 -- `room`: whether an entry is free
@@ -181,16 +179,12 @@ apply t room (change.Unlink path) = at_one t (other_target path) (unlink t)
 apply t room (change.Rmdir path) = at_one t (directory_target path) (rmdir t)
 apply t room (change.Rename old new) = at_two t (other_target old) (other_target new) (rename t)
 
--- at most this many changes are counted (our choice)
-abbrev pub max_changes : ℕ
-max_changes = 1152921504606846975
-
 -- an entry is free as long as there are fewer than the capacity
 abbrev pub has_room : ℕ → Tree → Bool
 has_room capacity t = nat_lt (length t.entries) capacity
 
 abbrev pub apply_counted : ℕ → ℕ → Tree → Change → Changed
-apply_counted capacity count t c = if nat_lt count max_changes then apply t (has_room capacity t) c else Err EOVERFLOW
+apply_counted capacity count t c = if nat_lt count most_changes then apply t (has_room capacity t) c else Err EOVERFLOW
 
 -- the tree after changes, the first of them on this tree, after `count` earlier ones
 abbrev pub after_from : ℕ → ℕ → Tree → List Change → Changed

@@ -1,6 +1,7 @@
 -- What a walk does with the components of a path or a link's text (path_resolution(7)).
 use Rattle.std.specs.Prelude.{ℕ, Bool, true, false, ◌≡◌, ◌==◌, List, [], ◌∷◌, map, bytes_eq, if◌then◌else◌}
 use Rattle.std.specs.List.{list_any}
+use Rattle.names.specs.Ascii as ascii
 use Rattle.names.specs.Paths.{components}
 
 abbrev pub slash : ℕ
@@ -8,11 +9,11 @@ slash = 47
 
 -- `.`
 abbrev pub dot : List ℕ
-dot = 46 ∷ []
+dot = ascii.dot ∷ []
 
 -- `..`
 abbrev pub dot_dot : List ℕ
-dot_dot = 46 ∷ 46 ∷ []
+dot_dot = ascii.dot ∷ ascii.dot ∷ []
 
 abbrev pub is_filled : List ℕ → Bool
 is_filled [] = false

@@ -1,4 +1,5 @@
 -- The name of an entry: the path from the root that has no link, no `.` and no `..` in it (getcwd(3), realpath(3)).
+pub use Rattle.names.specs.Limits.{longest_path}
 use Rattle.std.specs.Prelude.{ℕ, zero, suc, ◌==◌, List, [], ◌∷◌, ◌++◌, length, Some, None, Result, Ok, Err, nat_lt, if◌then◌else◌}
 use Rattle.names.specs.declared.errors.Errno.{Errno}
 use Rattle.names.specs.declared.errors.Errno.TheVariants.{ENAMETOOLONG}
@@ -21,13 +22,9 @@ abbrev pub name_of : Tree → Spot → List ℕ
 name_of t Root = slash ∷ []
 name_of t (Held e) = directory_name t e.of ++ slash ∷ (e.component ++ (if is_directory e.kind then slash ∷ [] else []))
 
--- the most bytes of a name: PATH_MAX without its closing byte 0 (limits.h)
-abbrev pub max_name : ℕ
-max_name = 4095
-
 -- a longer name can't be judged (our choice)
 abbrev pub judged : List ℕ → Result (List ℕ) Errno
-judged name = if nat_lt max_name (length name) then Err ENAMETOOLONG else Ok name
+judged name = if nat_lt longest_path (length name) then Err ENAMETOOLONG else Ok name
 
 abbrev pub judged_name : Tree → Spot → Result (List ℕ) Errno
 judged_name t spot = judged (name_of t spot)

@@ -1,5 +1,6 @@
 -- The answers to a script of changes, one after the other: for worked rows.
 use Rattle.std.specs.Prelude.{ℕ, zero, suc, ◌+◌, List, [], ◌∷◌, ◌++◌, codes, Result, Ok, Err}
+use Rattle.names.specs.Ascii as ascii
 use Rattle.names.specs.declared.errors.Errno.{Errno}
 use Rattle.directory_tree.specs.declared.change.Change.{Change}
 use Rattle.directory_tree.specs.declared.change.Change.TheVariants as change
@@ -84,4 +85,4 @@ abbrev pub long_name : ℕ → List Change
 long_name n =
     deep 15 ++ change.Symlink (deep_path 3) (codes "/d1") ∷ change.Symlink (codes "/d1" ++ deep_path 3) (codes "/d2")
     ∷ change.Symlink (codes "/d2" ++ deep_path 3) (codes "/d3") ∷ change.Symlink (codes "/d3" ++ deep_path 3) (codes "/d4")
-    ∷ change.Symlink (codes "/d4" ++ deep_path 3) (codes "/d5") ∷ change.Create (codes "/d5/" ++ run_of 98 n) ∷ []
+    ∷ change.Symlink (codes "/d4" ++ deep_path 3) (codes "/d5") ∷ change.Create (codes "/d5/" ++ run_of ascii.letter_b n) ∷ []

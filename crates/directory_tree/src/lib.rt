@@ -7,11 +7,13 @@
 
 mod change;
 mod examples;
+mod history;
 mod laws;
 mod node;
 
 pub use change::{Change, LinkBytes};
 pub use examples::{changes_are_answered, long_names_are_told, paths_are_walked};
+pub use history::{History, TreeHistory};
 pub use laws::{
     at_most_forty_links, changes_keep_well_formed, kind_is_of_any_entry, link_keeps_well_formed,
     links_are_found, make_keeps_well_formed, more_links_change_no_answer, name_leads_back,
@@ -19,4 +21,5 @@ pub use laws::{
     plain_trees_are_well_formed, removal_keeps_well_formed, rename_keeps_well_formed,
     renames_move_names, root_alone_is_well_formed, root_is_above_itself, walk_stays_in_tree,
 };
-pub use node::{Kind, LONGEST_LINK_TEXT, Last, LinkText, NodeKind};
+pub use names::LONGEST_LINK_TEXT;
+pub use node::{Kind, Last, LinkText, NodeKind};

@@ -1,9 +1,6 @@
 use std::alloc::{AllocError, Global};
 use std::marker::Model;
 
-/// The longest text of a symbolic link, in bytes (our choice).
-pub const LONGEST_LINK_TEXT: usize = 1023;
-
 /// The text of a symbolic link (symlink(7)).
 #[derive(Drop)]
 pub struct LinkText {

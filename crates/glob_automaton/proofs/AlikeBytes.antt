@@ -1,4 +1,4 @@
--- How the bytes stay together that are taken alike, while more and more sets of bytes part them.
+-- How the bytes stay together that are taken alike, while more and more sets of bytes separate them.
 use Rattle.std.proofs.Common.{◌≡◌, ℕ, ◌<◌, ◌≤◌, ◌+◌, ◌==◌, ◌&&◌, not, nat_lt, Bool, true, false, List, [], length, slice_index_or}
 use Rattle.std.proofs.Common.{slice_set, refl, sym, ap, ◌∙◌, ⊎_elim, arith}
 use Rattle.std.proofs.Math.ListN.{replicate}
@@ -6,11 +6,11 @@ use Rattle.std.proofs.lemmas.Bool.Decides.{leb_tells, eqb_tells}
 use Rattle.std.proofs.lemmas.List.{get_or-replicate, length-replicate, get_or-set_other, get_or-set_same}
 use Rattle.glob_automaton.specs.inner.Alike.{IsAlike, AreAlike, IsSplit, NamesNone, least_of}
 use Rattle.glob_automaton.specs.inner.Chart.{takes_byte}
-use Rattle.glob_automaton.specs.inner.Drawing.{IsKnown}
+use Rattle.glob_automaton.specs.inner.Drawings.{IsKnown}
 use Rattle.glob_automaton.specs.declared.chart.Chart.{Chart}
 use Rattle.glob_automaton.specs.declared.chart.Label.{Label}
 use Rattle.glob_automaton.specs.declared.chart.Label.TheVariants as label
-use Rattle.glob_automaton.proofs.Splitting.{and_last}
+use Rattle.glob_automaton.proofs.Splits.{and_last}
 
 -- the test says the same of a byte and of its least one
 abbrev pub Together : (ℕ → Bool) → List ℕ → Type 0

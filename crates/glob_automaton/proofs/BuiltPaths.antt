@@ -2,7 +2,7 @@
 use Rattle.std.proofs.Common.{◌≡◌, ◌++◌, ◌∷◌, [], ℕ, List, Some, slice_get, sym, subst}
 use Rattle.glob_automaton.proofs.ClosureSteps.{pushed_each}
 use Rattle.glob_automaton.specs.declared.leaf.PathAutomaton.{PathAutomaton}
-use Rattle.glob_automaton.specs.inner.Building.{IsBuilt}
+use Rattle.glob_automaton.specs.inner.ChartStates.{IsBuilt}
 
 abbrev pub EachBuilt : List PathAutomaton → Type 0
 EachBuilt paths = (i : ℕ) (path : PathAutomaton) → slice_get paths i ≡ Some path → IsBuilt path.chart path.dfa

@@ -6,12 +6,12 @@ use Rattle.std.proofs.lemmas.List.{length-append, length-drop, get_or_append_lef
 use Rattle.std.proofs.lemmas.Bool.{cases_lt}
 use Rattle.glob_automaton.specs.declared.chart.Chart.{Chart}
 use Rattle.names.specs.declared.record.Record.{Record}
-use Rattle.glob_automaton.specs.inner.Building.{IsStartOf, IsStepOf, begins, IsRecordOf, IsBuilt}
-use Rattle.automata.specs.Automata.{IsWhole}
-use Rattle.automata.specs.declared.range.TargetRange.{TargetRange}
-use Rattle.automata.specs.Rows.{AreRows, IsRowFrom, rows_of, target_in}
-use Rattle.automata.proofs.RowLaws.{row_stays, row_some, target_stays}
-use Rattle.automata.proofs.RowLists.{row_at, rows_long, target_at, targets_long}
+use Rattle.glob_automaton.specs.inner.ChartStates.{IsStartOf, IsStepOf, begins, IsRecordOf, IsBuilt}
+use Rattle.automaton_rows.specs.Automata.{IsWhole}
+use Rattle.automaton_rows.specs.declared.range.TargetRange.{TargetRange}
+use Rattle.automaton_rows.specs.Rows.{AreRows, IsRowFrom, rows_of, target_in}
+use Rattle.automaton_rows.proofs.RowLaws.{row_stays, row_some, target_stays}
+use Rattle.automaton_rows.proofs.RowLists.{row_at, rows_long, target_at, targets_long}
 use Rattle.glob_automaton.specs.inner.States.{tables, AreStates, IsNumbered, AreFewSets, Keeps, IsTargetOf, IsRowOfSet}
 use Rattle.glob_automaton.proofs.EmptySets.{all_empty}
 use Rattle.glob_automaton.proofs.RuleNumbers.{neither_less}
@@ -87,7 +87,7 @@ module _ {X : Type 0} (xs : List X) (x d : X) where
   newest : (i : ℕ) → i ≡ length xs → slice_index_or (xs ++ x ∷ []) i d ≡ x
   newest i at = ap (λ z. slice_index_or (xs ++ x ∷ []) z d) at ∙ get_or-append_seam xs x [] d
 
--- one state more
+-- one more state
 pub one_state_more : (chart : Chart) (sets new : List (List ℕ)) (ranges row : List TargetRange) (firsts : List ℕ) (records : List Record)
     (start state : ℕ)
     (set : List ℕ) (r : Record) → AreStates chart sets ranges firsts records start state → state < length sets →

@@ -1,4 +1,4 @@
--- A rule more in the chart: its end, and its places before it. The rules before it stay.
+-- One more rule in the chart: its end, and its places before it. The rules before it stay.
 use Rattle.std.proofs.Common.{[], ◌≡◌, ℕ, ◌+◌, ◌<◌, ◌≤◌, false, ◌↔◌, ⊎_elim, List, ◌∷◌, ◌++◌, length, IsTrue, Vec, Global, refl, sym, ap}
 use Rattle.std.proofs.Common.{◌∙◌, subst, arith, Some}
 use Rattle.std.specs.List.{slice_get}
@@ -9,7 +9,7 @@ use Rattle.rule_globs.specs.Glob.{places}
 use Rattle.rule_globs.specs.Follow.{Starts, TakesAt, Goes}
 use Rattle.rule_globs.specs.Rules.{RuleValue, pattern}
 use Rattle.glob_automaton.specs.inner.Chart.{IsIn, at_place, IsOrdered, takes_byte}
-use Rattle.glob_automaton.specs.inner.Drawing.{Grows, IsKnown, IsDrawn, HasRule, HasRules, IsChartOf}
+use Rattle.glob_automaton.specs.inner.Drawings.{Grows, IsKnown, IsDrawn, HasRule, HasRules, IsChartOf}
 use Rattle.glob_automaton.specs.declared.chart.Chart.{Chart}
 use Rattle.glob_automaton.specs.declared.chart.ChartPlace.{ChartPlace}
 use Rattle.glob_automaton.specs.declared.chart.ChartRule.{ChartRule}
@@ -118,7 +118,7 @@ new_rule s0 s2 s3 all rule d last pushed is kind perms at_last dr =
           );
     }
 
--- the whole chart, with one rule more
+-- the whole chart, with one more rule
 pub chart_more : (s0 s2 s3 : Chart) (all : Vec ChartRule Global) (rules : List RuleValue) (rule : RuleValue) (d : ChartRule) (last : ℕ) →
     IsChartOf rules s0 →
     s2.places.items ≡ s0.places.items ++ end_place ∷ [] → d.end ≡ length s0.places.items → d.kind ≡ rule.kind → d.perms ≡ held rule.perms →

@@ -12,13 +12,13 @@ use Rattle.names.specs.declared.kind.RuleKind.{RuleKind}
 use Rattle.names.specs.declared.kind.RuleKind.TheVariants.{Allow, Deny}
 use Rattle.glob_automaton.specs.declared.chart.Chart.{Chart}
 use Rattle.glob_automaton.specs.declared.chart.ChartRule.{ChartRule}
-use Rattle.automata.specs.declared.fault.CompileFault.{CompileFault}
-use Rattle.automata.specs.declared.fault.CompileFault.TheVariants.{TooManyStates, NoMemory}
+use Rattle.automaton_rows.specs.declared.fault.CompileFault.{CompileFault}
+use Rattle.automaton_rows.specs.declared.fault.CompileFault.TheVariants.{TooManyStates, NoMemory}
 use Rattle.names.specs.declared.record.Record.{Record}
-use Rattle.automata.specs.Automata.{Automaton, target, goes_to, state_after, most_sets}
+use Rattle.automaton_rows.specs.Automata.{Automaton, target, goes_to, state_after, most_sets}
 use Rattle.glob_automaton.specs.Automata.{IsCompileFault}
-use Rattle.glob_automaton.specs.inner.Building.{IsReached, begins, goes_on, EndsIn, IsRecordOf, IsBuilt, IsBuildFault}
-use Rattle.glob_automaton.specs.inner.Drawing.{HasRule, IsChartOf}
+use Rattle.glob_automaton.specs.inner.ChartStates.{IsReached, begins, goes_on, EndsIn, IsRecordOf, IsBuilt, IsBuildFault}
+use Rattle.glob_automaton.specs.inner.Drawings.{HasRule, IsChartOf}
 use Rattle.names.specs.Least.{hits_of, IsLeastOrNone}
 use Rattle.glob_automaton.specs.Parts.{SameIn, NoneIn, HitsIn, IsLeastIn, IsAutomatonOfPart}
 use Rattle.names.specs.Bytes.{are_bytes}
@@ -27,7 +27,7 @@ use Rattle.names.specs.Hits.{no_hits}
 use Rattle.glob_automaton.proofs.EmptySets.{empty_record}
 use Rattle.std.proofs.lemmas.List.Elements.{All-nil, All-push}
 use Rattle.std.proofs.lemmas.Option.{slice_get-get_or}
-use Rattle.glob_automaton.proofs.Counting.{each_counted}
+use Rattle.glob_automaton.proofs.SetCounts.{each_counted}
 use Rattle.glob_automaton.proofs.LiveByParts.{LeftFirst}
 use Rattle.glob_automaton.proofs.LiveNumbers.{LiveAtFirst, LiveAfterByte}
 use Rattle.glob_automaton.proofs.NamePrefixes.{EachWithSlash}

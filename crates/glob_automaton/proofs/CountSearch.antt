@@ -4,12 +4,12 @@ use Rattle.std.proofs.Common.{arith}
 use Rattle.std.proofs.lemmas.Bool.{cases_lt}
 use Rattle.std.proofs.lemmas.List.Elements.{All-nil}
 use Rattle.rule_profile.specs.Profile.{RuleValue}
-use Rattle.automata.specs.Automata.{most_sets}
+use Rattle.automaton_rows.specs.Automata.{most_sets}
 use Rattle.glob_automaton.specs.Automata.{StateLimit}
 use Rattle.glob_automaton.specs.Sets.{SameSet, NoneLive, IsPrefixOfName, AreDifferent, AreMoreThan}
 use Rattle.glob_automaton.proofs.CountedPrefixes.{AreAll, all_counted}
-use Rattle.glob_automaton.proofs.Counting.{few_values}
-use Rattle.glob_automaton.proofs.Deciding.{Decided, told, told_right}
+use Rattle.glob_automaton.proofs.SetCounts.{few_values}
+use Rattle.glob_automaton.proofs.Decisions.{Decided, told, told_right}
 use Rattle.glob_automaton.proofs.LiveByParts.{LeftFirst}
 use Rattle.glob_automaton.proofs.LiveNumbers.{LiveAfterByte}
 use Rattle.glob_automaton.proofs.LiveTests.{TakesByCuts}
@@ -90,8 +90,8 @@ is_more_right : (by_cuts : TakesByCuts) (after : LiveAfterByte) (by_steps : Left
 unfolding is_more
 is_more_right by_cuts after by_steps n rules = told_right (AreMoreThan n rules) (decided_more by_cuts after by_steps n rules)
 
-pub state_limit : TakesByCuts → LiveAfterByte → LeftFirst → StateLimit
-state_limit by_cuts after by_steps = record {
+pub most_states : TakesByCuts → LiveAfterByte → LeftFirst → StateLimit
+most_states by_cuts after by_steps = record {
   is_over = is_more by_cuts after by_steps most_sets;
   right = is_more_right by_cuts after by_steps most_sets;
 }

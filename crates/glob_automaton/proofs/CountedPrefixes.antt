@@ -14,7 +14,7 @@ use Rattle.glob_automaton.proofs.SetsGoOn.{same_back, same_through, same_none, s
 abbrev pub AreAll : List RuleValue → List (List ℕ) → Type 0
 AreAll rules prefixes = (x : List ℕ) → IsPrefixOfName x → IsCounted rules prefixes x
 
--- what is counted is so with one prefix more
+-- what is counted is so with one more prefix
 counted_more : (rules : List RuleValue) (prefixes : List (List ℕ)) (x y : List ℕ) → IsCounted rules prefixes y →
     IsCounted rules (x ∷ prefixes) y
 counted_more rules prefixes x y (inl h) = inl h

@@ -9,7 +9,7 @@ use Rattle.rule_globs.specs.Meaning.{meaning, node_meaning, meaning_of, alt_all,
 use Rattle.rule_globs.specs.declared.items.Item.{Item, Item-F, fold-roll-Item}
 use Rattle.rule_globs.specs.declared.items.Item.TheVariants as v
 use Rattle.rule_globs.specs.declared.items.Item.TheVariants.{rolls-Byte, rolls-AnyByte, rolls-Group}
-use Rattle.glob_automaton.specs.inner.Drawing.{TakesSet, IsKnown, IsDrawn}
+use Rattle.glob_automaton.specs.inner.Drawings.{TakesSet, IsKnown, IsDrawn}
 use Rattle.glob_automaton.specs.declared.chart.Chart.{Chart}
 use Rattle.glob_automaton.specs.declared.chart.Label.{Label}
 

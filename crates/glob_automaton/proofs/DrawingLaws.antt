@@ -12,7 +12,7 @@ use Rattle.rule_globs.specs.Glob.{Glob, empty, one, run, cat, none, alt, fits, p
 use Rattle.rule_globs.specs.Meaning.{in_stars, stars_glob}
 use Rattle.rule_globs.specs.Follow.{Starts, TakesAt, Goes}
 use Rattle.glob_automaton.specs.inner.Chart.{IsIn, at_place, at_run, past_run, one_side, other_side, IsOrdered, refers_below, takes_byte}
-use Rattle.glob_automaton.specs.inner.Drawing.{IsReady, TakesSet, Grows, IsKnown, IsDrawn}
+use Rattle.glob_automaton.specs.inner.Drawings.{IsReady, TakesSet, Grows, IsKnown, IsDrawn}
 use Rattle.glob_automaton.specs.declared.chart.Chart.{Chart}
 use Rattle.glob_automaton.specs.declared.chart.ChartPlace.{ChartPlace}
 use Rattle.glob_automaton.specs.declared.chart.Label.{Label}
@@ -71,7 +71,7 @@ known_on old new label.Any g k = k
 known_on old new (label.Class n) g k = omega (arith, k, grown_length old.classes.items new.classes.items g)
 known_on old new label.Nothing g k = k
 
--- one entry more that refers to entries before it
+-- one more entry that refers to entries before it
 pub ordered_on : (old new : List Entry) (x : Entry) → IsOrdered old → refers_below (length old) x → new ≡ old ++ x ∷ [] → IsOrdered new
 ordered_on old new x ordered below grown e y h = ⊎_elim
     (λ t. ordered e y t.0)
@@ -450,7 +450,7 @@ drawn_run old new takes set behind start ready known takes_set pushed is grown s
           (omega (arith, is, count), known_on old new takes same known);
     }
 
--- one class more, before a drawing
+-- one more class, before a drawing
 pub drawn_past_class : (old mid new : Chart) (g : Glob) (behind start : ℕ) → mid.places ≡ old.places → mid.entries ≡ old.entries →
     mid.rules ≡ old.rules → Grows old.classes.items mid.classes.items → IsDrawn mid new g behind start → IsDrawn old new g behind start
 drawn_past_class old mid new g behind start same_places same_entries same_rules more d =

@@ -9,7 +9,7 @@ use Rattle.names.specs.Hits.{no_hits, record_with}
 use Rattle.names.specs.Least.{hits_of, record_of}
 use Rattle.glob_automaton.specs.declared.chart.Chart.{Chart}
 use Rattle.glob_automaton.specs.declared.chart.ChartRule.{ChartRule}
-use Rattle.glob_automaton.specs.inner.Building.{EndsIn, IsRecordOf}
+use Rattle.glob_automaton.specs.inner.ChartStates.{EndsIn, IsRecordOf}
 use Rattle.glob_automaton.proofs.AloneRecords.{one_hits}
 
 module _ (made : (hits : Permission → LeastHits) (p : Permission) → hits_of (record_of hits) p ≡ hits p) (chart : Chart) (set : List ℕ)

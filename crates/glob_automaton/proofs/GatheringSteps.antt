@@ -9,9 +9,9 @@ use Rattle.glob_automaton.specs.declared.chart.Chart.{Chart}
 use Rattle.glob_automaton.specs.declared.chart.ChartRule.{ChartRule}
 use Rattle.glob_automaton.specs.declared.chart.ChartPlace.{ChartPlace}
 use Rattle.glob_automaton.specs.inner.Chart.{IsIn, takes_byte}
-use Rattle.glob_automaton.specs.inner.Drawing.{IsPartOfChart}
-use Rattle.glob_automaton.specs.inner.Gathering.{IsAscending}
-use Rattle.glob_automaton.specs.inner.Building.{ArePlaces, IsStartOf, IsStepOf}
+use Rattle.glob_automaton.specs.inner.Drawings.{IsPartOfChart}
+use Rattle.glob_automaton.specs.inner.GatheredSets.{IsAscending}
+use Rattle.glob_automaton.specs.inner.ChartStates.{ArePlaces, IsStartOf, IsStepOf}
 use Rattle.glob_automaton.proofs.RuleNumbers.{rule_of, rule_stands}
 
 -- q is live at the beginning of one of the first i rules
@@ -37,7 +37,7 @@ member_at : (set : List ℕ) (i : ℕ) → i < length set → Contains set (get_
 member_at set i lt = (i, lt, get_or_default set i (get_or set i 0) 0 lt)
 
 module _ (chart : Chart) where
-  -- One rule more is read, and what is live where it begins comes in.
+  -- One more rule is read, and what is live where it begins comes in.
   pub starts_more : (Old New : ℕ → Type 0) (i : ℕ) (rules : List ChartRule) (d : ChartRule) → rules ≡ chart.rules.items →
       i < length rules →
       ((q : ℕ) → Old q ↔ StartsBefore chart i q) →

@@ -26,7 +26,7 @@ record_over matches i r [] = r
 record_over matches i r (rule ∷ rules) =
     record_over matches (i + 1) (if matches (i + 1) then record_with r rule.kind (held rule.perms) (i + 1) else r) rules
 
--- the test says which rules take the name
+-- the test says which rules match the name
 abbrev pub AreMatches : List RuleValue → List ℕ → (ℕ → Bool) → Type 0
 AreMatches rules name matches = (n : ℕ) (rule : RuleValue) → IsRuleAt rules n rule → IsTrue (matches n) ↔ Takes (pattern rule) name
 
@@ -100,7 +100,7 @@ hit_of rules kind p name n r at h =
     subst P (same_rule rules n h.0 r h.1 at) (h.2, h.3, h.4)
 
 module _ (rules : List RuleValue) (name : List ℕ) where
-  -- a hit of one rule more is one of those before or is that rule's
+  -- a hit of one more rule is one of those before or is that rule's
   hit_before : (kind : RuleKind) (p : Permission) (i m : ℕ) → HitsUpTo rules name (i + 1) kind p m →
       HitsUpTo rules name i kind p m ⊎ (m ≡ i + 1)
   hit_before kind p i m t = ⊎_elim (λ lt. inl (omega arith, t.1)) (λ le. inr (omega (arith, le, t.0))) (cases_lt m (i + 1))
@@ -127,13 +127,13 @@ module _ (rules : List RuleValue) (name : List ℕ) where
   pub upto-none : IsLeastUpTo rules name 0 no_hits
   upto-none kind p = inl (none-of kind p, λ m s. let never : ⊥ = omega (arith, s.0, s.1.1.0) in never)
 
-  -- a rule that doesn't take the name leaves the record
+  -- a rule that doesn't match the name leaves the record
   pub upto-skip : (i : ℕ) (r s : Record) (rule : RuleValue) → IsRuleAt rules (i + 1) rule → (Takes (pattern rule) name → ⊥) → s ≡ r →
       IsLeastUpTo rules name i r → IsLeastUpTo rules name (i + 1) s
   upto-skip i r s rule at none same least = subst (IsLeastUpTo rules name (i + 1)) (sym same)
       (λ kind p. skip kind p i (number_of kind (hits_of r p)) (λ h. none (hit_of rules kind p name (i + 1) rule at h).2) (least kind p))
 
-  -- a rule that takes the name is added
+  -- a rule that matches the name is added
   adds : (i : ℕ) (r : Record) (rule : RuleValue) → IsRuleAt rules (i + 1) rule → Takes (pattern rule) name →
       IsLeastUpTo rules name i r → IsLeastUpTo rules name (i + 1) (record_with r rule.kind (held rule.perms) (i + 1))
   adds i r rule at takes least kind p =
@@ -178,7 +178,7 @@ module _ (rules : List RuleValue) (name : List ℕ) where
   first_of : (i : ℕ) (rule : RuleValue) (rest : List RuleValue) → AreBehind i (rule ∷ rest) → IsRuleAt rules (i + 1) rule
   first_of i rule rest behind = behind.1 1 rule (omega arith, omega arith, refl)
 
-  -- a rule of a list is one number later behind one rule more
+  -- with one more rule before a list, the number of each of its rules is one greater
   next_of : (n : ℕ) (rule : RuleValue) (rest : List RuleValue) (x : RuleValue) → IsRuleAt rest n x → IsRuleAt (rule ∷ rest) (n + 1) x
   next_of zero rule rest x at = absurd (omega (arith, at.0))
   next_of (suc n) rule rest x at =

@@ -18,9 +18,9 @@ use Rattle.names.specs.declared.record.Record.{Record}
 use Rattle.names.specs.declared.record.LeastHits.{LeastHits}
 use Rattle.names.specs.Least.{IsLeastOrNone, hits_of, record_of, no_hit}
 use Rattle.names.specs.Hits.{no_hits}
-use Rattle.automata.specs.declared.fault.CompileFault.{CompileFault}
-use Rattle.automata.specs.declared.fault.CompileFault.TheVariants.{TooManyStates, NoMemory}
-use Rattle.automata.specs.Automata.{Automaton, target, goes_to, state_after, most_sets}
+use Rattle.automaton_rows.specs.declared.fault.CompileFault.{CompileFault}
+use Rattle.automaton_rows.specs.declared.fault.CompileFault.TheVariants.{TooManyStates, NoMemory}
+use Rattle.automaton_rows.specs.Automata.{Automaton, target, goes_to, state_after, most_sets}
 use Rattle.glob_automaton.specs.Automata.{IsCompileFault}
 use Rattle.glob_automaton.specs.Sets.{IsLive, SameSet, NoneLive, AreMoreThan}
 use Rattle.glob_automaton.proofs.AloneRecords.{nobody_hits, one_hits}
@@ -110,7 +110,7 @@ module _ (rules : List RuleValue) (rule : RuleValue) (before : ℕ) (stands : sl
 
   -- ---- hits
 
-  -- what reading hits, the path takes
+  -- what reading hits, the path matches
   taken : (x : List ℕ) (n : ℕ) → Hits (reading rule ∷ []) Allow Read x n → Takes (pattern rule) x
   taken x n h = subst (λ (z : RuleValue). Takes (pattern z) x) (sym (only_one n h.0 h.1).1) h.4
 

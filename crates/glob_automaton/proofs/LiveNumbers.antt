@@ -8,9 +8,9 @@ use Rattle.rule_globs.specs.Follow.{Starts, TakesAt, Goes}
 use Rattle.rule_profile.specs.Profile.{RuleValue, pattern}
 use Rattle.glob_automaton.specs.declared.chart.Chart.{Chart}
 use Rattle.glob_automaton.specs.declared.chart.ChartRule.{ChartRule}
-use Rattle.glob_automaton.specs.inner.Building.{IsStartOf, IsStepOf, IsReached, begins, goes_on}
-use Rattle.glob_automaton.specs.inner.Drawing.{HasRule, IsChartOf}
-use Rattle.glob_automaton.specs.inner.Gathering.{IsAscending}
+use Rattle.glob_automaton.specs.inner.ChartStates.{IsStartOf, IsStepOf, IsReached, begins, goes_on}
+use Rattle.glob_automaton.specs.inner.Drawings.{HasRule, IsChartOf}
+use Rattle.glob_automaton.specs.inner.GatheredSets.{IsAscending}
 use Rattle.glob_automaton.proofs.PatternPlaces.{starts_within, goes_within, takes_within}
 use Rattle.glob_automaton.proofs.RuleNumbers.{rule_stands, rule_of}
 
@@ -85,7 +85,7 @@ start_back rules chart set first is start q n =
     subst (λ z. Starts g (d.end + 1) (λ y. y ≡ d.end) z) (sym n.number) ((first g d.end n.place n.within).0 n.live) in
     (start.live q).1 (n.index, d, n.is_drawn, ((stands_so rules chart [] q is n).starts q).1 begun)
 
--- the set after one byte more
+-- the set after one more byte
 step_there : (rules : List RuleValue) (chart : Chart) (bytes set next : List ℕ) (b : ℕ) → LiveAfterByte → IsChartOf rules chart → b < 256 →
     IsStepOf chart set b next → HoldsNumbers rules chart bytes set → (q : ℕ) → Contains next q → IsNumber rules chart (bytes ++ b ∷ []) q
 step_there rules chart bytes set next b after is small step holds q h =

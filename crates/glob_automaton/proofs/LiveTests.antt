@@ -9,8 +9,8 @@ use Rattle.rule_globs.specs.PlainVerdict.{takes}
 use Rattle.rule_profile.specs.Profile.{RuleValue, pattern}
 use Rattle.rule_globs.specs.Verdict.{IsRuleAt}
 use Rattle.glob_automaton.specs.Sets.{SameSet, NoneLive}
-use Rattle.glob_automaton.proofs.Deciding.{Decided, decided_test, decided_by, decided_both, decided_either, decided_not, decided_same}
-use Rattle.glob_automaton.proofs.Deciding.{decided_equal, decided_empty, decided_behind, decided_pairs, decided_cut}
+use Rattle.glob_automaton.proofs.Decisions.{Decided, decided_test, decided_by, decided_both, decided_either, decided_not, decided_same}
+use Rattle.glob_automaton.proofs.Decisions.{decided_equal, decided_empty, decided_behind, decided_pairs, decided_cut}
 use Rattle.glob_automaton.proofs.LiveByParts.{LeftFirst, IsLiveByParts, SameByParts, NoneByParts, same_by_parts, none_by_parts}
 use Rattle.glob_automaton.proofs.PatternPlaces.{live_within}
 use Rattle.glob_automaton.proofs.ReachedSets.{at_index}
@@ -25,20 +25,20 @@ pub one_of_number : (rules : List RuleValue) (n : ℕ) (rule other : RuleValue) 
 one_of_number rules n rule other first second = same_Some rule other (sym (at_index rules n rule first) ∙ at_index rules n other second)
 
 -- more than the places of each rule
-most_places : List RuleValue → ℕ
-most_places [] = 0
-most_places (rule ∷ rules) = places (pattern rule) + 1 + most_places rules
+all_places : List RuleValue → ℕ
+all_places [] = 0
+all_places (rule ∷ rules) = places (pattern rule) + 1 + all_places rules
 
 places_below : (rules : List RuleValue) (i : ℕ) (rule : RuleValue) → slice_get rules i ≡ Some rule →
-    places (pattern rule) < most_places rules
-unfolding most_places
+    places (pattern rule) < all_places rules
+unfolding all_places
 places_below [] i rule e = absurd (none-some rule e)
 places_below (r ∷ rules) zero rule e =
     let same : places (pattern r) ≡ places (pattern rule) = ap (λ z. places (pattern z)) (same_Some r rule e) in omega (arith, same)
 places_below (r ∷ rules) (suc i) rule e = omega (arith, places_below rules i rule e)
 
 live_below_bounds : (rules : List RuleValue) (bytes : List ℕ) (n p : ℕ) → IsLiveByParts rules bytes n p →
-    (n < length rules + 1) × (p < most_places rules)
+    (n < length rules + 1) × (p < all_places rules)
 live_below_bounds rules bytes n p h =
     let inside = places_below rules (n - 1) h.0 (at_index rules n h.0 h.1) in
     let own = live_within (pattern h.0) bytes p h.2 in
@@ -94,17 +94,17 @@ module _ (by_cuts : TakesByCuts) where
 
   decided_same_parts : (rules : List RuleValue) (x y : List ℕ) → Decided (SameByParts rules x y)
   decided_same_parts rules x y = decided_pairs (λ n p. IsLiveByParts rules x n p ↔ IsLiveByParts rules y n p)
-      (length rules + 1) (most_places rules)
+      (length rules + 1) (all_places rules)
       (λ n p. decided_same (IsLiveByParts rules x n p) (IsLiveByParts rules y n p)
       (decided_is_live rules x n p) (decided_is_live rules y n p))
       (λ n p past. (λ h. absurd (beyond x n p past h), λ h. absurd (beyond y n p past h)))
     where
-      beyond : (z : List ℕ) (n p : ℕ) → (length rules + 1 ≤ n) ⊎ (most_places rules ≤ p) → ¬ (IsLiveByParts rules z n p)
+      beyond : (z : List ℕ) (n p : ℕ) → (length rules + 1 ≤ n) ⊎ (all_places rules ≤ p) → ¬ (IsLiveByParts rules z n p)
       beyond z n p (inl past) h = omega (arith, past, (live_below_bounds rules z n p h).0)
       beyond z n p (inr past) h = omega (arith, past, (live_below_bounds rules z n p h).1)
 
   decided_no_parts : (rules : List RuleValue) (x : List ℕ) → Decided (NoneByParts rules x)
-  decided_no_parts rules x = decided_pairs (λ n p. ¬ (IsLiveByParts rules x n p)) (length rules + 1) (most_places rules)
+  decided_no_parts rules x = decided_pairs (λ n p. ¬ (IsLiveByParts rules x n p)) (length rules + 1) (all_places rules)
       (λ n p. decided_not (IsLiveByParts rules x n p) (decided_is_live rules x n p))
       (λ n p past h. ⊎_elim
       (λ t. omega (arith, t, (live_below_bounds rules x n p h).0))

@@ -12,8 +12,8 @@ use Rattle.rule_profile.specs.Readable.{begins_with_slash, are_tokens, is_path, 
 use Rattle.rule_globs.specs.Tokens.{Token, pattern_of}
 use Rattle.glob_automaton.specs.declared.chart.Chart.{Chart}
 use Rattle.glob_automaton.specs.declared.chart.ChartRule.{ChartRule}
-use Rattle.glob_automaton.specs.inner.Building.{IsStepOf, IsReached, begins, goes_on}
-use Rattle.glob_automaton.specs.inner.Drawing.{HasRule, IsChartOf}
+use Rattle.glob_automaton.specs.inner.ChartStates.{IsStepOf, IsReached, begins, goes_on}
+use Rattle.glob_automaton.specs.inner.Drawings.{HasRule, IsChartOf}
 use Rattle.glob_automaton.specs.Sets.{IsPrefixOfName}
 use Rattle.glob_automaton.proofs.LiveNumbers.{LiveAtFirst, LiveAfterByte, IsNumber, stands_so, live_numbers}
 use Rattle.glob_automaton.proofs.PatternPlaces.{takes_within, first_is_slash}
@@ -37,7 +37,7 @@ each_with_slash p h i rule e =
     let front = (and_parts (begins_with_slash rule.items && nat_le (length rule.items) 1024) (are_tokens false 0 rule.items) path).0 in
     (and_parts (begins_with_slash rule.items) (nat_le (length rule.items) 1024) front).0
 
--- one byte more
+-- one more byte
 longer : (front : List ℕ) (b : ℕ) (tokens : List Token) (p : ℕ) → IsPrefixOfName front → 0 < b → b < 256 →
     IsTrue (begins_with_slash tokens) →
     LiveOrEnd (pattern_of tokens) (front ++ b ∷ []) p → IsPrefixOfName (front ++ b ∷ [])

@@ -1,11 +1,11 @@
--- One new set after another is looked for, among what one byte more leads to.
+-- One new set after another is looked for, among what one more byte leads to.
 use Rattle.std.proofs.Common.{◌≡◌, ℕ, zero, suc, ◌+◌, ◌<◌, ◌⊎◌, inl, inr, ⊎_elim, List, [], ◌∷◌, ◌++◌, length, slice_index_or, All, refl}
 use Rattle.std.proofs.Common.{arith}
 use Rattle.std.proofs.lemmas.Bool.{cases_lt}
 use Rattle.std.proofs.lemmas.List.Elements.{All-nil, All-cons, All-push}
 use Rattle.rule_profile.specs.Profile.{RuleValue}
 use Rattle.glob_automaton.specs.Sets.{SameSet, NoneLive, IsPrefixOfName, AreDifferent}
-use Rattle.glob_automaton.proofs.Deciding.{all_or_some}
+use Rattle.glob_automaton.proofs.Decisions.{all_or_some}
 use Rattle.glob_automaton.proofs.LiveByParts.{LeftFirst}
 use Rattle.glob_automaton.proofs.LiveTests.{TakesByCuts, decided_none, decided_same_set}
 

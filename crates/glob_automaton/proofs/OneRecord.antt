@@ -36,7 +36,7 @@ one_record same rules name first second one other = same first second (λ p. sam
     (one_least (Hits rules Allow p name) (hits_of first p).allow (hits_of second p).allow (one p).0 (other p).0)
     (one_least (Hits rules Deny p name) (hits_of first p).deny (hits_of second p).deny (one p).1 (other p).1))
 
--- whether a rule that may be there takes the name
+-- whether a rule that may be there matches the name
 may_take : List ℕ → Option RuleValue → Bool
 may_take name None = false
 may_take name (Some rule) = takes (pattern rule) name

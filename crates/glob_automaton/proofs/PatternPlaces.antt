@@ -75,7 +75,7 @@ pub live_within : (g : Glob) (x : List ℕ) (p : ℕ) → LiveOrEnd g x p → p 
 live_within g x p (inl h) = omega (arith, live_below g x p h)
 live_within g x p (inr h) = omega (arith, h.0)
 
--- the end is live where the whole pattern takes the bytes
+-- the end is live where the whole pattern matches the bytes
 pub end_live : (g : Glob) (x : List ℕ) → LiveOrEnd g x (places g) → Takes g x
 end_live g x (inl h) = absurd (omega (arith, live_below g x (places g) h))
 end_live g x (inr h) = h.1

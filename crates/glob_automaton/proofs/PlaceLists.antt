@@ -11,7 +11,7 @@ use Rattle.std.proofs.lemmas.Grind.{get_or-set_at}
 use Rattle.std.proofs.lemmas.List.{get_or-set_other, get_or_append_left, get_or_past, get_or_default, length-append}
 use Rattle.std.proofs.lemmas.Nat.Bits.{bit_at_set_same, bit_at_set_other}
 use Rattle.std.proofs.Math.Seq.{get_or-append_seam}
-use Rattle.glob_automaton.specs.inner.Gathering.{IsAscending}
+use Rattle.glob_automaton.specs.inner.GatheredSets.{IsAscending}
 use Rattle.glob_automaton.specs.inner.PlaceBits.{has_from, has_place, is_bit}
 use Rattle.glob_automaton.proofs.WordBits.{bits_or, bits_zero}
 
@@ -20,7 +20,7 @@ pub same_places : (old new : List ℕ) → ((w : ℕ) → slice_index_or new w 0
     has_place new q ≡ has_place old q
 same_places old new same q = ap (λ z. is_bit z (q % 64)) (same (q / 64))
 
--- one bit more
+-- one more bit
 module _ (words : List ℕ) (place : ℕ) (room : place / 64 < length words) where
   joined_word : ℕ
   joined_word = bit_or (slice_index_or words (place / 64) 0) (1 * 2 ^ (place % 64) % 2 ^ 64)

@@ -45,7 +45,7 @@ prefix_bytes (b ∷ bytes) h = λ k d lt. each k d lt
     each zero d lt = omega (arith, h.0)
     each (suc k) d lt = (h.1 k d (omega (arith, lt))).1
 
--- one byte more of a name
+-- one more byte of a name
 longer : (x : List ℕ) (b : ℕ) → IsPrefixOfName x → 0 < length x → 0 < b → b < 256 → IsPrefixOfName (x ++ b ∷ [])
 longer [] b h some above below = absurd (omega (arith, some))
 longer (c ∷ more) b h some above below = (h.0, All-push (λ d. (0 < d) × (d < 256)) more b h.1 (above, below))

@@ -3,12 +3,12 @@ use Rattle.std.proofs.Common.{◌≡◌, ⊎_elim, Bool, slice_index_or, ℕ, ze
 use Rattle.std.proofs.Common.{sym, subst, subst₂, refl}
 use Rattle.std.proofs.Common.{arith}
 use Rattle.std.proofs.lemmas.Bool.{cases_lt}
-use Rattle.automata.specs.declared.range.TargetRange.{TargetRange}
-use Rattle.automata.specs.Rows.{IsRowAppended, target_in}
-use Rattle.automata.proofs.Fronts.{IsSoFar, one_range_more, last_range}
+use Rattle.automaton_rows.specs.declared.range.TargetRange.{TargetRange}
+use Rattle.automaton_rows.specs.Rows.{IsRowAppended, target_in}
+use Rattle.automaton_rows.proofs.Fronts.{IsSoFar, one_range_more, last_range}
 use Rattle.glob_automaton.specs.declared.chart.Chart.{Chart}
 use Rattle.glob_automaton.specs.inner.Alike.{AreAlike, AreLike, AreNamed}
-use Rattle.glob_automaton.specs.inner.Drawing.{IsPartOfChart}
+use Rattle.glob_automaton.specs.inner.Drawings.{IsPartOfChart}
 use Rattle.glob_automaton.specs.inner.States.{Keeps, IsTargetOf}
 use Rattle.glob_automaton.proofs.RowSteps.{same_step}
 use Rattle.glob_automaton.proofs.SetSteps.{still_target}

@@ -12,9 +12,9 @@ use Rattle.glob_automaton.specs.declared.chart.ChartPlace.{ChartPlace}
 use Rattle.glob_automaton.specs.declared.chart.Label.{Label}
 use Rattle.glob_automaton.specs.declared.chart.Label.TheVariants as label
 use Rattle.glob_automaton.specs.inner.Alike.{least_of, AreAlike, AreNamed, NamesNone}
-use Rattle.glob_automaton.specs.inner.Building.{IsStepOf}
+use Rattle.glob_automaton.specs.inner.ChartStates.{IsStepOf}
 use Rattle.glob_automaton.specs.inner.Chart.{takes_byte}
-use Rattle.glob_automaton.specs.inner.Drawing.{IsKnown, IsPartOfChart}
+use Rattle.glob_automaton.specs.inner.Drawings.{IsKnown, IsPartOfChart}
 use Rattle.glob_automaton.specs.inner.Shared.{AreShared}
 use Rattle.glob_automaton.specs.inner.States.{Keeps, IsTargetOf}
 use Rattle.glob_automaton.proofs.SetSteps.{still_target}

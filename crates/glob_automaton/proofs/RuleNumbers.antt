@@ -5,7 +5,7 @@ use Rattle.rule_globs.specs.Glob.{places}
 use Rattle.rule_profile.specs.Profile.{RuleValue, pattern}
 use Rattle.glob_automaton.specs.declared.chart.Chart.{Chart}
 use Rattle.glob_automaton.specs.declared.chart.ChartRule.{ChartRule}
-use Rattle.glob_automaton.specs.inner.Drawing.{HasRule, HasRules}
+use Rattle.glob_automaton.specs.inner.Drawings.{HasRule, HasRules}
 
 -- what is drawn at a rule's index is that rule's
 pub rule_stands : (chart : Chart) (rules : List RuleValue) (ds : List ChartRule) (at : ℕ) → HasRules chart at rules ds →

@@ -9,7 +9,7 @@ use Rattle.glob_automaton.specs.declared.chart.ChartRule.{ChartRule}
 use Rattle.glob_automaton.specs.declared.chart.Label.{Label}
 use Rattle.glob_automaton.specs.declared.chart.Label.TheVariants as label
 use Rattle.glob_automaton.specs.inner.Chart.{IsIn, IsOrdered, takes_byte}
-use Rattle.glob_automaton.specs.inner.Drawing.{AreSame, IsKnown, HasRule, HasRules, IsChartOf}
+use Rattle.glob_automaton.specs.inner.Drawings.{AreSame, IsKnown, HasRule, HasRules, IsChartOf}
 
 module _ (one other : Chart) (same : AreSame one other) where
   known_there : (by : Label) → IsKnown one by → IsKnown other by

@@ -5,17 +5,17 @@ use Rattle.std.proofs.Math.Seq.{get_or-append_seam}
 use Rattle.std.proofs.lemmas.List.{length-append, append-nil, append_assoc, get_or_append_left, get_or_default}
 use Rattle.std.proofs.lemmas.Bool.{cases_lt}
 use Rattle.glob_automaton.specs.declared.chart.Chart.{Chart}
-use Rattle.automata.specs.declared.fault.CompileFault.{CompileFault}
-use Rattle.automata.specs.declared.fault.CompileFault.TheVariants.{TooManyStates, NoMemory}
-use Rattle.glob_automaton.specs.inner.Building.{IsStepOf, IsReached, goes_on, AreSets, IsBuildFault}
+use Rattle.automaton_rows.specs.declared.fault.CompileFault.{CompileFault}
+use Rattle.automaton_rows.specs.declared.fault.CompileFault.TheVariants.{TooManyStates, NoMemory}
+use Rattle.glob_automaton.specs.inner.ChartStates.{IsStepOf, IsReached, goes_on, AreSets, IsBuildFault}
 use Rattle.glob_automaton.specs.inner.States.{IsNumbered, IsNumberFault, AreFewSets, Keeps, IsTargetOf}
-use Rattle.glob_automaton.proofs.Ascending.{no_members, contains_none}
+use Rattle.glob_automaton.proofs.AscendingLists.{no_members, contains_none}
 
 -- some bytes reach the set, or it is empty
 abbrev pub IsEmptyOrReached : Chart → List ℕ → Type 0
 IsEmptyOrReached chart set = (set ≡ []) ⊎ ((bytes : List ℕ) × IsReached chart bytes set)
 
--- a list with one element more
+-- a list with one more element
 length_more : (sets : List (List ℕ)) (set : List ℕ) → length (sets ++ set ∷ []) ≡ length sets + 1
 length_more sets set = length-append sets (set ∷ [])
 
@@ -82,7 +82,7 @@ numbered_sets chart old new set number are from is = (
   is.at,
 )
 
--- Where a set has no number for want of room, there are too many sets.
+-- Where a set has no number because there is no room, there are too many sets.
 pub too_many_sets : (chart : Chart) (old : List (List ℕ)) (set : List ℕ) (fault : CompileFault) → AreFewSets chart old →
     IsEmptyOrReached chart set → IsNumberFault old set fault → IsBuildFault chart fault
 too_many_sets chart old set TooManyStates are from is =

@@ -1,4 +1,4 @@
--- Same sets, and how they go on: what is live after one byte more is given by the set before it.
+-- Same sets, and how they go on: what is live after one more byte is given by the set before it.
 use Rattle.std.proofs.Common.{◌≡◌, ℕ, List, [], ◌∷◌, ◌++◌, subst}
 use Rattle.rule_globs.specs.Glob.{Glob, LiveOrEnd}
 use Rattle.rule_profile.specs.Profile.{RuleValue, pattern}
@@ -18,7 +18,7 @@ pub same_none : (rules : List RuleValue) (x y : List ℕ) → SameSet rules x y 
 same_none rules x y h empty n p live = empty n p ((h n p).1 live)
 
 module _ (after : LiveAfterByte) (rules : List RuleValue) where
-  -- where all that is live after the one is live after the other, it is so after one byte more
+  -- where all that is live after the one is live after the other, it is so after one more byte
   goes_along : (x y : List ℕ) (b : ℕ) → ((n p : ℕ) → IsLiveByParts rules x n p → IsLiveByParts rules y n p) →
       (n p : ℕ) → IsLiveByParts rules (x ++ b ∷ []) n p → IsLiveByParts rules (y ++ b ∷ []) n p
   goes_along x y b go n p h =
@@ -33,7 +33,7 @@ module _ (after : LiveAfterByte) (rules : List RuleValue) where
   same_on : (x y : List ℕ) (b : ℕ) → SameByParts rules x y → SameByParts rules (x ++ b ∷ []) (y ++ b ∷ [])
   same_on x y b same n p = (goes_along x y b (λ m q. (same m q).0) n p, goes_along y x b (λ m q. (same m q).1) n p)
 
-  -- where nothing is live, nothing is so after one byte more
+  -- where nothing is live, nothing is so after one more byte
   none_on : (x : List ℕ) (b : ℕ) → NoneByParts rules x → NoneByParts rules (x ++ b ∷ [])
   none_on x b empty n p h =
       let w = (after (pattern h.0) 0 p x b (live_within (pattern h.0) (x ++ b ∷ []) p h.2)).0 h.2 in

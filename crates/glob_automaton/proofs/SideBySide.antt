@@ -10,7 +10,7 @@ use Rattle.names.specs.declared.record.Record.{Record}
 use Rattle.names.specs.declared.record.LeastHits.{LeastHits}
 use Rattle.names.specs.Least.{hits_of, record_of, no_hit}
 use Rattle.names.specs.Hits.{no_hits, first_number}
-use Rattle.automata.specs.Automata.{Automaton, target, goes_to, state_after}
+use Rattle.automaton_rows.specs.Automata.{Automaton, target, goes_to, state_after}
 use Rattle.automaton_products.specs.declared.pairs.Pair.{Pair}
 use Rattle.automaton_products.specs.Products.{pair, dead_pair, IsProduct, joined}
 use Rattle.glob_automaton.specs.Parts.{SameIn, NoneIn, IsAutomatonOfPart}

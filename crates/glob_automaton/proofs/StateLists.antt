@@ -10,7 +10,7 @@ use Rattle.std.proofs.lemmas.List.Folds.{list_any_at}
 use Rattle.std.proofs.lemmas.List.Quantifiers.{position-Some}
 use Rattle.std.proofs.lemmas.Option.{slice_get_cases, slice_get_within, get_or_from_slice_get}
 use Rattle.std.proofs.lemmas.Map.Keys.{apart_from_distinct}
-use Rattle.automata.specs.Automata.{most_sets}
+use Rattle.automaton_rows.specs.Automata.{most_sets}
 use Rattle.glob_automaton.specs.inner.States.{AreDistinct, IsNumbered}
 
 module _ {V : Type 0} (items : V → List ℕ) (eq : List ℕ → List ℕ → Bool) (same : (a b : List ℕ) → eq a b ≡ true → a ≡ b)

@@ -9,12 +9,12 @@ use Rattle.rule_profile.specs.Profile.{RuleValue}
 use Rattle.names.specs.declared.kind.RuleKind.{RuleKind}
 use Rattle.names.specs.declared.kind.RuleKind.TheVariants.{Allow, Deny}
 use Rattle.names.specs.Least.{IsLeastOrNone, hits_of}
-use Rattle.automata.specs.declared.fault.CompileFault.{CompileFault}
-use Rattle.automata.specs.declared.fault.CompileFault.TheVariants.{TooManyStates, NoMemory}
-use Rattle.automata.specs.Automata.{Automaton, state_after}
+use Rattle.automaton_rows.specs.declared.fault.CompileFault.{CompileFault}
+use Rattle.automaton_rows.specs.declared.fault.CompileFault.TheVariants.{TooManyStates, NoMemory}
+use Rattle.automaton_rows.specs.Automata.{Automaton, state_after}
 use Rattle.glob_automaton.specs.Automata.{IsAutomatonOf, IsCompileFault}
 use Rattle.glob_automaton.specs.Sets.{SameSet, NoneLive, AreDifferent, AreMoreThan, IsPrefixOfName}
-use Rattle.glob_automaton.proofs.Counting.{few_values}
+use Rattle.glob_automaton.proofs.SetCounts.{few_values}
 use Rattle.glob_automaton.proofs.LiveByParts.{LeftFirst}
 use Rattle.glob_automaton.proofs.LiveNumbers.{LiveAfterByte}
 use Rattle.automaton_products.specs.declared.pairs.Pair.{Pair}

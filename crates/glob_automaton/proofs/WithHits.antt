@@ -2,7 +2,7 @@
 use Rattle.std.proofs.Common.{◌≤◌, ℕ, List, length, refl, arith}
 use Rattle.std.proofs.lemmas.Option.{slice_get_within}
 use Rattle.names.specs.declared.record.Record.{Record}
-use Rattle.automata.specs.Automata.{Automaton, IsWhole}
+use Rattle.automaton_rows.specs.Automata.{Automaton, IsWhole}
 use Rattle.glob_automaton.specs.inner.Leaves.{AreWithHits, IsWithHits}
 
 pub all_with_hits : (hits : Record) (a : Automaton) (records : List Record) (state : ℕ) → IsWhole a → length a.rows ≤ state →

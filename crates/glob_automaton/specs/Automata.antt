@@ -3,9 +3,9 @@ use Rattle.std.specs.Prelude.{◌≡◌, ◌↔◌, ℕ, Bool, IsTrue, List, len
 use Rattle.names.specs.Bytes.{are_bytes}
 use Rattle.rule_profile.specs.Profile.{RuleValue}
 use Rattle.names.specs.declared.record.Record.{Record}
-use Rattle.automata.specs.declared.fault.CompileFault.{CompileFault}
-use Rattle.automata.specs.declared.fault.CompileFault.TheVariants.{TooManyStates, NoMemory}
-pub use Rattle.automata.specs.Automata.{Automaton, IsWhole, target, goes_to, state_after, most_sets}
+use Rattle.automaton_rows.specs.declared.fault.CompileFault.{CompileFault}
+use Rattle.automaton_rows.specs.declared.fault.CompileFault.TheVariants.{TooManyStates, NoMemory}
+pub use Rattle.automaton_rows.specs.Automata.{Automaton, IsWhole, target, goes_to, state_after, most_sets}
 use Rattle.names.specs.Hits.{no_hits}
 use Rattle.glob_automaton.specs.Least.{IsLeastRecord}
 use Rattle.glob_automaton.specs.Sets.{SameSet, NoneLive, IsCount, AreMoreThan}

@@ -10,7 +10,7 @@ use Rattle.names.specs.declared.kind.RuleKind.TheVariants.{Allow, Deny}
 use Rattle.names.specs.declared.record.Record.{Record}
 use Rattle.names.specs.Least.{IsLeastOrNone, hits_of}
 use Rattle.names.specs.Hits.{no_hits}
-use Rattle.automata.specs.Automata.{Automaton, IsWhole, state_after}
+use Rattle.automaton_rows.specs.Automata.{Automaton, IsWhole, state_after}
 use Rattle.glob_automaton.specs.Sets.{IsLive, IsPrefixOfName}
 
 -- after both the same places of these rules are live

@@ -1,12 +1,12 @@
 pub mod Chart
-pub mod Drawing
+pub mod Drawings
 pub mod Alike
-pub mod Ascending
+pub mod AscendingLists
 pub mod PlaceBits
 pub mod ByteBits
 pub mod Marks
-pub mod Gathering
-pub mod Building
+pub mod GatheredSets
+pub mod ChartStates
 pub mod States
 pub mod Shared
 pub mod Leaves

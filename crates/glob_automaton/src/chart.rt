@@ -6,7 +6,7 @@ ghost use Rattle.rule_globs.specs.Meaning.{meaning, meaning_of, stars_glob, alte
 ghost use Rattle.rule_profile.specs.Profile.{profile_value, rule_value};
 ghost use Rattle.glob_automaton.specs.inner.Chart.{takes_byte};
 ghost use Rattle.glob_automaton.specs.inner.Leaves.{reading};
-ghost use Rattle.glob_automaton.specs.inner.Drawing.{IsReady, IsDrawn, IsPartOfChart, HasOneMore, IsChartOf, IsKnown, TakesSet, AreSame};
+ghost use Rattle.glob_automaton.specs.inner.Drawings.{IsReady, IsDrawn, IsPartOfChart, HasOneMore, IsChartOf, IsKnown, TakesSet, AreSame};
 
 use names::{Permission, Perms, RuleKind};
 use rule_globs::{Class, Item, Stars};

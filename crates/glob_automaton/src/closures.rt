@@ -2,7 +2,7 @@
 ghost use Rattle.std.specs.Prelude.{◌≡◌, ◌↔◌, ◌⊎◌, ◌<◌, ℕ, List, false, true, length, IfOk, OnOk};
 ghost use Rattle.glob_automaton.specs.declared.chart.Entry.{Entry};
 ghost use Rattle.glob_automaton.specs.inner.Chart.{IsIn, IsOrdered};
-ghost use Rattle.glob_automaton.specs.inner.Gathering.{AreClosures};
+ghost use Rattle.glob_automaton.specs.inner.GatheredSets.{AreClosures};
 ghost use Rattle.glob_automaton.specs.inner.PlaceBits.{has_place, AreWithin};
 
 use crate::chart::{Chart, Entry};

@@ -4,13 +4,13 @@ ghost use Rattle.rule_profile.specs.Profile.{RuleValue, rule_value};
 ghost use Rattle.rule_profile.specs.Readable.{begins_with_slash};
 ghost use Rattle.glob_automaton.specs.Automata.{IsCompileFault};
 ghost use Rattle.glob_automaton.specs.Parts.{IsAutomatonOfPart};
-ghost use Rattle.glob_automaton.specs.inner.Building.{IsBuilt};
-ghost use Rattle.glob_automaton.specs.inner.Drawing.{AreSame};
+ghost use Rattle.glob_automaton.specs.inner.ChartStates.{IsBuilt};
+ghost use Rattle.glob_automaton.specs.inner.Drawings.{AreSame};
 ghost use Rattle.glob_automaton.specs.inner.Leaves.{hits_alone, where_read, AreBuilt, IsWithHits};
 
-use crate::building::{build, keep};
 use crate::chart::Chart;
-use automata::{CompileFault, Dfa};
+use crate::subsets::{build, keep};
+use automaton_rows::{CompileFault, Dfa};
 use names::{Permission, Record, records_are_their_hits};
 use rule_globs::{live_is_left_first, live_places_go_on};
 use rule_profile::Rule;

@@ -6,21 +6,21 @@
 //! The definitions to believe are those in `specs/`; those in `specs/inner/` are of private contracts and proofs.
 #![tactic(auto)]
 
-mod building;
 mod byte_bits;
 mod bytes;
 mod chart;
 mod closures;
-mod compiling;
+mod compilation;
 mod laws;
 mod leaf;
 mod marks;
 mod parts;
 mod place_bits;
 mod sets;
+mod subsets;
 
-pub use automata::{CompileFault, Dfa};
-pub use compiling::compile;
+pub use automaton_rows::{CompileFault, Dfa};
+pub use compilation::compile;
 pub use laws::{
     least_hits_tell_the_verdict, names_have_one_least_record, rules_have_one_count,
     too_many_states_can_be_told,

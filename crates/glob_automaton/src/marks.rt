@@ -1,7 +1,7 @@
 //! The bytes at which the targets of a set may change.
 ghost use Rattle.std.specs.Prelude.{◌≡◌, slice_set, true};
 ghost use Rattle.glob_automaton.specs.inner.Alike.{AreEdges, AreNamed};
-ghost use Rattle.glob_automaton.specs.inner.Building.{ArePlaces};
+ghost use Rattle.glob_automaton.specs.inner.ChartStates.{ArePlaces};
 ghost use Rattle.glob_automaton.specs.inner.Marks.{AreMarks};
 
 use crate::byte_bits::ByteBits;

@@ -1,8 +1,8 @@
 //! Laws of the automata of parts of a profile's rules.
 ghost use Rattle.std.specs.Prelude.{◌≡◌, ◌≤◌, ℕ, List, length};
 ghost use Rattle.rule_profile.specs.Profile.{RuleValue};
-ghost use Rattle.automata.specs.declared.fault.CompileFault.{CompileFault};
-ghost use Rattle.automata.specs.Automata.{Automaton};
+ghost use Rattle.automaton_rows.specs.declared.fault.CompileFault.{CompileFault};
+ghost use Rattle.automaton_rows.specs.Automata.{Automaton};
 ghost use Rattle.glob_automaton.specs.Automata.{IsAutomatonOf, IsCompileFault};
 ghost use Rattle.automaton_products.specs.Products.{IsProduct, IsProductFault};
 ghost use Rattle.glob_automaton.specs.Parts.{IsAutomatonOfPart, BeginWithSlashes, AreMoreThanIn};

@@ -1,7 +1,7 @@
 //! Places as bits of words.
 ghost use Rattle.std.specs.Prelude.{◌≡◌, ◌↔◌, ◌⊎◌, ◌+◌, ◌*◌, ◌^◌, ◌/◌, ◌%◌, ◌<◌, ◌≤◌, ◌||◌, ◌==◌, ℕ, [], true, false, length, IfOk};
 ghost use Rattle.std.specs.Prelude.{IfSome, None, OnOk, Contains, slice_index_or};
-ghost use Rattle.glob_automaton.specs.inner.Ascending.{IsAscending};
+ghost use Rattle.glob_automaton.specs.inner.AscendingLists.{IsAscending};
 ghost use Rattle.glob_automaton.specs.inner.PlaceBits.{has_from, has_place, is_bit, AreWithin, IsNextBit};
 
 use std::alloc::{AllocError, Global};

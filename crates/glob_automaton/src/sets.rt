@@ -1,7 +1,7 @@
 //! Sets of live places.
 ghost use Rattle.std.specs.Prelude.{◌≡◌, ◌↔◌, ◌⊎◌, ◌<◌, ℕ, length, IfOk, OnOk, Contains};
 ghost use Rattle.glob_automaton.specs.inner.Chart.{IsIn, IsOrdered};
-ghost use Rattle.glob_automaton.specs.inner.Gathering.{IsGathering, IsAscending, Holds};
+ghost use Rattle.glob_automaton.specs.inner.GatheredSets.{IsGathering, IsAscending, Holds};
 
 use crate::chart::Chart;
 use crate::closures::Closures;

@@ -1,7 +1,7 @@
 //! What was changed, and published, is found.
 ghost use Rattle.std.specs.Prelude.{◌≡◌};
 
-use crate::testing::{allowed, create, keeper, path, publish, publish_as, session, to_read};
+use crate::fixtures::{allowed, create, keeper, publish, publish_as, session, to_read};
 use dentry_cache::Keeper;
 use directory_tree::Change;
 use names::{Errno, Verdict};
@@ -12,6 +12,7 @@ use std::marker::Brand;
 use std::process::Abort;
 use std::sync::Wait;
 use std::test::Fail;
+use test_parts::path;
 
 fn expect_open<M: Row>(
     rt: &(impl Abort + Wait),

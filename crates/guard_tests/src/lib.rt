@@ -1,8 +1,13 @@
-//! Tests of `path_guard` and `guarded_row`, and nothing else.
+//! Tests of `guarded_row`, `path_guard`, `justification`, `path_storm` and `script_bench`, and nothing else: with the tests here, each
+//! library is proved once.
 #![tactic(auto)]
 
 #[cfg(test)]
 mod back;
+#[cfg(test)]
+mod benches;
+#[cfg(test)]
+mod fixtures;
 #[cfg(test)]
 mod links;
 #[cfg(test)]
@@ -10,4 +15,4 @@ mod locked;
 #[cfg(test)]
 mod places;
 #[cfg(test)]
-mod testing;
+mod storm;

@@ -1,7 +1,7 @@
 //! Hard links by a guard.
 ghost use Rattle.std.specs.Prelude.{◌≡◌};
 
-use crate::testing::{allowed, create, keeper, publish, session, to_read};
+use crate::fixtures::{allowed, create, keeper, publish, session, to_read};
 use dentry_cache::Keeper;
 use names::{Errno, Permission, Perms};
 use path_guard::{Guard, LinkAnswer, Row, Session};

@@ -1,7 +1,7 @@
 //! Opens while another thread holds the lock of the row's keeper.
 ghost use Rattle.std.specs.Prelude.{◌≡◌, [], IfOk};
 
-use crate::testing::{allowed, compiled, keeper, path, to_read};
+use crate::fixtures::{allowed, keeper, to_read};
 use dentry_cache::Keeper;
 use directory_tree::Change;
 use guarded_row::{Answer, GuardedRow, Row, Session};
@@ -13,14 +13,16 @@ use std::sync::atomic::{AtomicBool, Ordering};
 use std::sync::{MutexGuard, Wait};
 use std::test::Fail;
 use std::thread::{Threads, join, yield_now};
+use storm_parts::compiled;
+use test_parts::path;
 
-// Who waits longer fails the test, and goes on.
+// A thread that waits longer fails the test, and goes on.
 const MOST_TURNS: u64 = 100_000_000;
 
-// After as many turns it yields, so that the other thread gets on where processors are few.
+// After this many turns it yields, so that the other thread makes progress where there are few processors.
 const TURNS_AT_ONCE: u64 = 4096;
 
-/// What two threads tell each other.
+/// What two threads signal to each other.
 #[derive(Drop)]
 struct Signals {
     // The lock is held.

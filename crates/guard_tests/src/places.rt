@@ -1,7 +1,7 @@
 //! Places of sessions, and the end of a guard.
 ghost use Rattle.std.specs.Prelude.{◌≡◌};
 
-use crate::testing::{allowed, create, keeper, publish, session, to_read};
+use crate::fixtures::{allowed, create, keeper, publish, session, to_read};
 use dentry_cache::Keeper;
 use path_guard::{Answer, Guard, Row, Session, SessionFault};
 use profile_registry::{PLACES, Publisher};

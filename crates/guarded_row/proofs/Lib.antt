@@ -1,3 +1,3 @@
-pub mod Sending
-mod Trying
+pub mod ThreadSafety
+mod LastTries
 mod Opened

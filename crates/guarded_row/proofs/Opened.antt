@@ -7,8 +7,8 @@ use Rattle.justification.specs.declared.answer.Answer.{Answer}
 use Rattle.justification.specs.declared.answer.Answer.TheVariants.{Judged, Failed, NoProfile, Busy, NoEntry}
 use Rattle.justification.specs.Justified.{Justified}
 use Rattle.mediation.specs.Deeds.{policy_after}
-use Rattle.path_session.specs.Sitting.{Sitting, HasReadPolicy, IsByPublished, CountsRefusals}
-use Rattle.guarded_row.specs.Opening.{IsNotBusy, HasAsked, HasLooked}
+use Rattle.path_session.specs.Sessions.{Sitting, HasReadPolicy, IsByPublished, CountsRefusals}
+use Rattle.guarded_row.specs.Opens.{IsNotBusy, HasAsked, HasLooked}
 use Rattle.guarded_row.specs.Tries.{IsBusy, IsTriedUpTo}
 use Rattle.guarded_row.specs.inner.Tries.{IsTryOfSession, HasOpened, CountsTries}
 

@@ -1,4 +1,4 @@
-pub mod Opening
-pub mod Linking
+pub mod Opens
+pub mod Links
 pub mod Tries
 pub mod inner

@@ -1,7 +1,7 @@
 -- Tries of an open, of which a further one follows only where a change came between.
 use Rattle.std.specs.Prelude.{◌≡◌, ◌⊎◌, ℕ, zero, suc}
 use Rattle.justification.specs.declared.answer.Answer.{Answer}
-use Rattle.guarded_row.specs.Opening.{IsNotBusy}
+use Rattle.guarded_row.specs.Opens.{IsNotBusy}
 
 -- a change came between
 abbrev pub IsBusy : Answer → Type 0

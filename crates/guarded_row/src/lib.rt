@@ -5,8 +5,8 @@
 #![tactic(auto)]
 
 mod guarded;
-mod linking;
-mod opening;
+mod links;
+mod opens;
 mod row;
 mod tries;
 

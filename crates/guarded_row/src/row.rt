@@ -5,11 +5,11 @@ ghost use Rattle.dentry_cache.specs.Models.{Makes, Hinders};
 ghost use Rattle.justification.specs.Justified.{Justified};
 ghost use Rattle.mediation.specs.Deeds.{policy_after};
 ghost use Rattle.row_rule.specs.Steps.{newcomer};
-ghost use Rattle.path_session.specs.Sitting.{IsSameSession, HasSeenMore, HasReadPolicy, HasVersions, IsNameJudged};
-ghost use Rattle.path_session.specs.Sitting.{IsByPublished, CountsRefusals};
+ghost use Rattle.path_session.specs.Sessions.{IsSameSession, HasSeenMore, HasReadPolicy, HasVersions, IsNameJudged};
+ghost use Rattle.path_session.specs.Sessions.{IsByPublished, CountsRefusals};
 ghost use Rattle.path_session.specs.AtHand.{IsLetIn};
-ghost use Rattle.guarded_row.specs.Opening.{IsNotBusy};
-ghost use Rattle.guarded_row.specs.Linking.{IsAnswerOf, IsNoAnswerOf};
+ghost use Rattle.guarded_row.specs.Opens.{IsNotBusy};
+ghost use Rattle.guarded_row.specs.Links.{IsAnswerOf, IsNoAnswerOf};
 
 use dentry_cache::{Keeper, NoSeat, Walker};
 use directory_tree::Change;
@@ -17,7 +17,7 @@ use names::{Errno, Perms};
 use path_session::{Answer, LinkAnswer, Session, Unanswered};
 use std::marker::{Brand, PhantomData};
 
-/// Which row it is. Code that is generic in it speaks of one row, whichever that is; who makes the keeper picks it, by `Brand`.
+/// Which row it is. Code that is generic in it speaks of one row, whichever that is; the code that makes the keeper picks it, by `Brand`.
 pub trait Row {
     ghost table: { TableId };
 }

@@ -27,7 +27,7 @@ impl TryOpen for Session {
 }
 
 /// Tries an open this often at most, again only where a change came between.
-#[tactic(auto, using(crate::proofs::Trying::quiet, crate::proofs::Trying::last))]
+#[tactic(auto, using(crate::proofs::LastTries::quiet, crate::proofs::LastTries::last))]
 pub(crate) fn try_up_to<T: TryOpen>(most: usize, opener: &mut T, path: &[u8], ask: Perms) -> Answer
     requires { 0 < most }
     ensures { IsTriedUpTo (λ before now answer. T.tried before now path.now ask answer) most opener.old opener.new result }

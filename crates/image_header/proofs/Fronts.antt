@@ -14,7 +14,7 @@ use Rattle.tables.specs.declared.fault.ImageFault.{ImageFault}
 use Rattle.tables.specs.declared.fault.ImageFault.TheVariants as fault
 use Rattle.tables.specs.declared.header.Version.{Version}
 use Rattle.tables.specs.declared.header.Version.TheVariants.{First, Second}
-use Rattle.tables.proofs.Deciding.{decided_equal, decided_limits, decided_list}
+use Rattle.tables.proofs.Decisions.{decided_equal, decided_limits, decided_list}
 
 -- a number in the first bytes
 number_same : (n i : ℕ) (xs ys : List ℕ) → i + n ≤ length xs → little_number n (drop i (xs ++ ys)) ≡ little_number n (drop i xs)
@@ -123,14 +123,14 @@ module _ (header more : List ℕ) (long : length header ≡ 20) where
 most_by_limits : (v : Version) (bytes : List ℕ) → InLimits (word_at bytes 8) (word_at bytes 12) (word_at bytes 16) →
     told_length v bytes ≤ longest_image
 most_by_limits First bytes limits =
-    let states = limits.most_states in
-    let cells = limits.most_cells in
-    let records = limits.most_records in
+    let states = limits.states_fit in
+    let cells = limits.cells_fit in
+    let records = limits.records_fit in
     omega (arith, states, cells, records)
 most_by_limits Second bytes limits =
-    let states = limits.most_states in
-    let cells = limits.most_cells in
-    let records = limits.most_records in
+    let states = limits.states_fit in
+    let cells = limits.cells_fit in
+    let records = limits.records_fit in
     omega (arith, states, cells, records)
 
 most_length : (v : Version) (header : List ℕ) → IsFirstImageFault header fault.Length → told_length v header ≤ longest_image

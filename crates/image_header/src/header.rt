@@ -6,10 +6,7 @@ ghost use Rattle.tables.specs.declared.fault.ImageFault.TheVariants as fault;
 ghost use Rattle.tables.specs.declared.header.Version.{Version};
 
 use byteorder::{ByteOrder, LittleEndian};
-use tables::{Image, ImageFault, Version, images_are_whole};
-
-/// How many bytes the header has.
-pub const HEADER_LENGTH: usize = 20;
+use tables::{HEADER_LENGTH, Image, ImageFault, Version, images_are_whole};
 
 /// How many bytes an image has that begins with these bytes, or the first fault of every image that does. Nothing is settled by
 /// fewer bytes than the header has.

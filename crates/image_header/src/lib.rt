@@ -8,5 +8,6 @@
 mod header;
 mod laws;
 
-pub use header::{HEADER_LENGTH, image_length};
+pub use header::image_length;
 pub use laws::headers_settle_images;
+pub use tables::HEADER_LENGTH;

@@ -18,7 +18,7 @@ use Rattle.image_judge.specs.declared.answer.Answer.{Answer}
 use Rattle.image_judge.specs.inner.Parts.{AreToldTo, IsToldAt}
 use Rattle.image_judge.specs.Batches.{IsAnswerAt, name_at, part_of}
 use Rattle.image_judge.specs.Sets.{set_of_number}
-use Rattle.table_verifier.specs.Loading.{IsLoaded}
+use Rattle.table_verifier.specs.AcceptedImages.{IsLoaded}
 
 -- an offset of the part is one of the whole
 pub offset_of : (offsets : List ℕ) (first last i : ℕ) → first + i < last → last ≤ length offsets →
@@ -54,7 +54,7 @@ pub part_long : (names : List ℕ) (begin end : ℕ) → begin ≤ end → end �
 part_long names begin end ascend within =
     sym (length-take-le (end - begin) (drop begin names) (omega (arith, length-drop begin names, ascend, within)))
 
--- one answer more
+-- one more answer
 pub told_more : (t : Table) (ask : Perms) (names offsets : List ℕ) (place : ℕ) (a : Answer) (answers : List Answer) →
     AreToldTo t ask names offsets place answers → place < length answers → IsToldAt t ask (name_at names offsets place) a →
     AreToldTo t ask names offsets (place + 1) (slice_set answers place a)

@@ -2,7 +2,7 @@
 use Rattle.std.proofs.Common.{◌≡◌, ◌≢◌, ℕ, zero, suc, Bool, true, false, refl, sym, ap, ◌∙◌, arith, if◌then◌else◌, ◌==◌}
 use Rattle.std.proofs.lemmas.Bool.{ne_eqb}
 use Rattle.names.specs.Grounds.{HasNone, IsVerdictOn}
-use Rattle.names.specs.declared.judging.Grounds.{Grounds}
+use Rattle.names.specs.declared.judgment.Grounds.{Grounds}
 use Rattle.names.specs.declared.verdict.Verdict.{Verdict}
 use Rattle.names.specs.declared.verdict.Verdict.TheVariants.{Denied, NoRule, Allowed}
 use Rattle.image_judge.specs.Answers.{answer_of}

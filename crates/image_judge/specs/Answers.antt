@@ -8,11 +8,11 @@ use Rattle.names.specs.declared.verdict.Verdict.TheVariants.{Denied, NoRule, All
 use Rattle.tables.specs.Bounds.{fault_number, fault_place}
 use Rattle.tables.specs.Tables.{Table, cell_count, record_after, record_count, state_count}
 use Rattle.tables.specs.declared.fault.ImageFault.{ImageFault}
-use Rattle.table_verifier.specs.Loading.{IsLoaded, IsLoadFault}
+use Rattle.table_verifier.specs.AcceptedImages.{IsLoaded, IsLoadFault}
 use Rattle.image_judge.specs.Sets.{number_of}
 use Rattle.image_judge.specs.declared.answer.Answer.{Answer}
-use Rattle.image_judge.specs.declared.verifying.Counts.{Counts}
-use Rattle.image_judge.specs.declared.verifying.Fault.{Fault}
+use Rattle.image_judge.specs.declared.verification.Counts.{Counts}
+use Rattle.image_judge.specs.declared.verification.Fault.{Fault}
 
 -- an image is accepted exactly if its table is in bounds; otherwise its first fault is reported
 abbrev pub IsVerified : List ℕ → Fault → Type 0

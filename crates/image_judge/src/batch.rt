@@ -8,7 +8,7 @@ ghost use Rattle.image_judge.specs.Batches.{AreAnswersOf, name_at};
 ghost use Rattle.image_judge.specs.inner.Parts.{AreToldTo, ArePartsNames, IsToldAt};
 
 use crate::answer::{Answer, answer_on, no_answer};
-use crate::judging::judge_by;
+use crate::judgment::judge_by;
 use crate::permissions::set_of_number;
 use names::{Perms, grounds_of};
 use table_batches::{are_offsets, run_names_by_image};

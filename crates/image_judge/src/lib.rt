@@ -6,13 +6,13 @@
 
 mod answer;
 mod batch;
-mod judging;
+mod judgment;
 mod laws;
 mod permissions;
-mod verifying;
+mod verification;
 
 pub use answer::Answer;
 pub use batch::judge_all;
-pub use judging::judge;
+pub use judgment::judge;
 pub use laws::numbers_are_sets;
-pub use verifying::{Counts, Fault, count, verify};
+pub use verification::{Counts, Fault, count, verify};

@@ -5,42 +5,42 @@ use Rattle.std.proofs.Common.{Option, Some, None, refl, sym, ap, subst, arith}
 use Rattle.std.proofs.lemmas.Bool.{and_parts}
 use Rattle.names.specs.declared.permissions.Perms.{Perms}
 use Rattle.rule_globs.specs.Each.{Each}
-use Rattle.flat_text.specs.declared.part.PartKind.{PartKind}
-use Rattle.flat_text.specs.declared.part.PartKind.TheVariants as kinds
-use Rattle.flat_text.specs.declared.part.ItemKind.{ItemKind}
-use Rattle.flat_text.specs.declared.part.ItemKind.TheVariants as items
-use Rattle.flat_text.specs.Laws.{IsPart, IsItem}
-use Rattle.flat_text.specs.Parts.{PartValue, ItemValue, bytes_of_parts}
-use Rattle.flat_rules.specs.RuleParts.{no_effect, rule_whats}
-use Rattle.flat_rules.specs.RuleWords.{has_part}
-use Rattle.import_account.specs.declared.what.What.{What}
-use Rattle.import_account.specs.declared.what.What.TheVariants as whats
-use Rattle.subject_rules.specs.declared.effect.Change.{Change}
-use Rattle.subject_rules.specs.declared.effect.Change.TheVariants.{Exact, Wider}
-use Rattle.subject_rules.specs.declared.effect.Effect.{Effect}
-use Rattle.subject_rules.specs.declared.subject.AppliesTo.TheVariants.{Owners}
-use Rattle.subject_rules.specs.declared.subject.Subject.{Subject}
-use Rattle.subject_rules.specs.declared.subject.Subject.TheVariants.{Owner, Other}
-use Rattle.subject_rules.specs.Changes.{change, effect, gained, lost}
-use Rattle.subject_rules.specs.Restating.{has_some, is_restated, shape_of}
-use Rattle.subject_rules.specs.Subjects.{applies_to, other_subject}
+use Rattle.apparmor_text.specs.declared.part.PartKind.{PartKind}
+use Rattle.apparmor_text.specs.declared.part.PartKind.TheVariants as kinds
+use Rattle.apparmor_text.specs.declared.part.ItemKind.{ItemKind}
+use Rattle.apparmor_text.specs.declared.part.ItemKind.TheVariants as items
+use Rattle.apparmor_text.specs.Laws.{IsPart, IsItem}
+use Rattle.apparmor_text.specs.Parts.{PartValue, ItemValue, bytes_of_parts}
+use Rattle.apparmor_rules.specs.RuleParts.{no_effect, rule_whats}
+use Rattle.apparmor_rules.specs.RuleWords.{has_part}
+use Rattle.apparmor_rules.specs.declared.what.What.{What}
+use Rattle.apparmor_rules.specs.declared.what.What.TheVariants as whats
+use Rattle.apparmor_rules.specs.declared.effect.Extent.{Extent}
+use Rattle.apparmor_rules.specs.declared.effect.Extent.TheVariants.{Exact, Wider}
+use Rattle.apparmor_rules.specs.declared.effect.Effect.{Effect}
+use Rattle.apparmor_rules.specs.declared.subject.AppliesTo.TheVariants.{Owners}
+use Rattle.apparmor_rules.specs.declared.subject.Subject.{Subject}
+use Rattle.apparmor_rules.specs.declared.subject.Subject.TheVariants.{Owner, Other}
+use Rattle.apparmor_rules.specs.Changes.{change, effect, gained, lost}
+use Rattle.apparmor_rules.specs.Restatement.{has_some, is_restated, shape_of}
+use Rattle.apparmor_rules.specs.Subjects.{applies_to, other_subject}
 use Rattle.names.specs.declared.kind.RuleKind.TheVariants.{Allow}
-use Rattle.import_cut.specs.declared.cut.Phase.{Phase}
-use Rattle.import_cut.specs.declared.cut.Phase.TheVariants.{Outer, Skipping, Chosen}
-use Rattle.import_cut.specs.declared.cut.Run.{Run}
-use Rattle.import_cut.specs.declared.reading.Choice.{Choice}
-use Rattle.import_cut.specs.declared.reading.RuleReading.{RuleReading}
-use Rattle.import_cut.specs.declared.span.SpanKind.{SpanKind}
-use Rattle.import_cut.specs.declared.span.SpanKind.TheVariants.{Kept}
-use Rattle.import_cut.specs.PartSpans.{told, added_effect, added_rule, statement_whats, changes_profile}
-use Rattle.import_cut.specs.CutStates.{CutState, at_start, pass, put, enter, opened, closed, with_hat, with_change, passed, put_item}
-use Rattle.import_cut.specs.Cutting.{run_effect, run_kind, behind_run, start_run, chosen_head, outer_head, run_head, child_head}
-use Rattle.import_cut.specs.Cutting.{run_close, chosen_close, statement_item, chosen_rule, outer_item, run_item, chosen_item, plain_item}
-use Rattle.import_cut.specs.Cutting.{is_chosen, is_hat, is_rule, is_chosen_rule, cut_item, cut_items, cut_of, rest_kind, finished}
-use Rattle.import_cut.specs.ReadRules.{told_of}
-use Rattle.import_cut.proofs.ToldRules.{item_bytes}
-use Rattle.profile_import.specs.AddedRules.{added_at, added_rules}
-use Rattle.profile_import.specs.FileRules.{PlacedRule}
+use Rattle.import_spans.specs.declared.cut.Phase.{Phase}
+use Rattle.import_spans.specs.declared.cut.Phase.TheVariants.{Outer, Skipping, Chosen}
+use Rattle.import_spans.specs.declared.cut.Run.{Run}
+use Rattle.import_spans.specs.declared.context.Choice.{Choice}
+use Rattle.import_spans.specs.declared.context.RuleReading.{RuleReading}
+use Rattle.import_spans.specs.declared.span.SpanKind.{SpanKind}
+use Rattle.import_spans.specs.declared.span.SpanKind.TheVariants.{Kept}
+use Rattle.import_spans.specs.PartSpans.{told, added_effect, added_rule, statement_whats, changes_profile}
+use Rattle.import_spans.specs.CutStates.{CutState, at_start, pass, put, enter, opened, closed, with_hat, with_change, passed, put_item}
+use Rattle.import_spans.specs.Cuts.{run_effect, run_kind, behind_run, start_run, chosen_head, outer_head, run_head, child_head}
+use Rattle.import_spans.specs.Cuts.{run_close, chosen_close, statement_item, chosen_rule, outer_item, run_item, chosen_item, plain_item}
+use Rattle.import_spans.specs.Cuts.{is_chosen, is_hat, is_rule, is_chosen_rule, cut_item, cut_items, cut_of, rest_kind, finished}
+use Rattle.import_spans.specs.ReadRules.{told_of}
+use Rattle.import_spans.proofs.ToldRules.{item_bytes}
+use Rattle.import_profile.specs.AddedRules.{added_at, added_rules}
+use Rattle.import_profile.specs.FileRules.{PlacedRule}
 use Rattle.import_laws.proofs.EachAdded.{of_each_added}
 use Rattle.import_laws.proofs.SpansBefore.{Tells, before_chosen_head, before_end, before_parts, head_part, plain_part}
 use Rattle.import_laws.proofs.SpansBefore.{put_each, put_is_told, put_cases}
@@ -52,17 +52,17 @@ IsAdding (Skipping run) = (chosen : Subject) → run_effect chosen run.what ≡ 
 IsAdding _ = ⊥
 
 -- what is reported of rules that are added, where it says no more of wider than of exact
-pub added_for_chosen : (R : Change → Type 0) (eases : R Wider → R Exact) (chosen : Subject) → R (added_effect chosen).on_chosen →
+pub added_for_chosen : (R : Extent → Type 0) (eases : R Wider → R Exact) (chosen : Subject) → R (added_effect chosen).on_chosen →
     R (change chosen chosen added_rule)
 added_for_chosen R eases Owner h = eases h
 added_for_chosen R eases Other h = h
 
-pub added_for_other : (R : Change → Type 0) (chosen : Subject) → R (added_effect chosen).on_other →
+pub added_for_other : (R : Extent → Type 0) (chosen : Subject) → R (added_effect chosen).on_other →
     R (change chosen (other_subject chosen) added_rule)
 added_for_other R Owner h = h
 added_for_other R Other h = h
 
-module _ (on : Effect → Change) (R : Change → Type 0) (c : Choice) where
+module _ (on : Effect → Extent) (R : Extent → Type 0) (c : Choice) where
   -- what adds rules is reported
   abbrev pub Added : Type 0
   Added = R (on (added_effect c.subject))

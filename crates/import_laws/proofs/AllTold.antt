@@ -2,25 +2,25 @@
 use Rattle.std.proofs.Common.{List}
 use Rattle.std.specs.List.{All}
 use Rattle.rule_globs.specs.Each.{Each}
-use Rattle.flat_text.specs.Laws.{IsItem}
-use Rattle.flat_text.specs.Parts.{ItemValue}
-use Rattle.profile_variables.specs.Variables.{Variable}
-use Rattle.subject_rules.specs.declared.effect.Change.{Change}
-use Rattle.subject_rules.specs.declared.effect.Effect.{Effect}
-use Rattle.subject_rules.specs.declared.subject.Subject.{Subject}
-use Rattle.subject_rules.specs.Changes.{change}
-use Rattle.subject_rules.specs.Restating.{shape_of}
-use Rattle.import_cut.specs.declared.reading.Choice.{Choice}
-use Rattle.import_cut.specs.PartSpans.{added_effect, added_rule}
-use Rattle.profile_import.specs.AddedRules.{added_rules}
-use Rattle.profile_import.specs.FileRules.{item_reading}
-use Rattle.profile_import.specs.Restated.{all_rules, cut_for}
+use Rattle.apparmor_text.specs.Laws.{IsItem}
+use Rattle.apparmor_text.specs.Parts.{ItemValue}
+use Rattle.apparmor_variables.specs.Variables.{Variable}
+use Rattle.apparmor_rules.specs.declared.effect.Extent.{Extent}
+use Rattle.apparmor_rules.specs.declared.effect.Effect.{Effect}
+use Rattle.apparmor_rules.specs.declared.subject.Subject.{Subject}
+use Rattle.apparmor_rules.specs.Changes.{change}
+use Rattle.apparmor_rules.specs.Restatement.{shape_of}
+use Rattle.import_spans.specs.declared.context.Choice.{Choice}
+use Rattle.import_spans.specs.PartSpans.{added_effect, added_rule}
+use Rattle.import_profile.specs.AddedRules.{added_rules}
+use Rattle.import_profile.specs.FileRules.{item_reading}
+use Rattle.import_profile.specs.Restated.{all_rules, cut_for}
 use Rattle.import_laws.specs.Imported.{plain_rules}
 use Rattle.import_laws.proofs.AddedTold.{added_told}
 use Rattle.import_laws.proofs.ExactRules.{RulesAreTold, all_told}
 use Rattle.import_laws.proofs.SpansBefore.{Tells}
 
-pub all_rules_told : (on : Effect → Change) (subject : Subject) (R : Change → Type 0) (variables : List Variable) (choice : Choice) →
+pub all_rules_told : (on : Effect → Extent) (subject : Subject) (R : Extent → Type 0) (variables : List Variable) (choice : Choice) →
     RulesAreTold on subject R variables choice →
     (R (on (added_effect choice.subject)) → R (change choice.subject subject added_rule)) →
     (items : List ItemValue) → Each IsItem items → Tells on R (cut_for variables choice items).spans

@@ -2,15 +2,15 @@
 use Rattle.std.proofs.Common.{◌≡◌, ℕ, ◌+◌, Bool, cond, List, [], ◌∷◌, ◌++◌, length, refl, sym, ap, ap₂, ◌∙◌}
 use Rattle.std.proofs.lemmas.List.{append-nil, length-append}
 use Rattle.std.proofs.lemmas.Grind.{flat_map-append}
-use Rattle.flat_text.specs.Parts.{ItemValue, bytes_of_items, bytes_of_parts}
-use Rattle.profile_variables.specs.Variables.{Variable}
-use Rattle.import_cut.specs.declared.reading.Choice.{Choice}
-use Rattle.import_cut.specs.declared.reading.RuleReading.{RuleReading}
-use Rattle.import_cut.specs.CutStates.{CutState, at_start}
-use Rattle.import_cut.specs.Cutting.{cut_item, cut_items, is_chosen_rule}
-use Rattle.import_cut.specs.Nesting.{Nesting, in_none, is_rule_of, nested, nesting_after}
-use Rattle.import_cut.proofs.WholeCuts.{all_go, start_is_good}
-use Rattle.profile_import.specs.FileRules.{PlacedRule, item_reading, rules_in, subject_rule}
+use Rattle.apparmor_text.specs.Parts.{ItemValue, bytes_of_items, bytes_of_parts}
+use Rattle.apparmor_variables.specs.Variables.{Variable}
+use Rattle.import_spans.specs.declared.context.Choice.{Choice}
+use Rattle.import_spans.specs.declared.context.RuleReading.{RuleReading}
+use Rattle.import_spans.specs.CutStates.{CutState, at_start}
+use Rattle.import_spans.specs.Cuts.{cut_item, cut_items, is_chosen_rule}
+use Rattle.import_spans.specs.Nests.{Nesting, in_none, is_rule_of, nested, nesting_after}
+use Rattle.import_spans.proofs.WholeCuts.{all_go, start_is_good}
+use Rattle.import_profile.specs.FileRules.{PlacedRule, item_reading, rules_in, subject_rule}
 use Rattle.import_laws.specs.RulesInside.{rules_inside}
 
 -- how many bytes were cut

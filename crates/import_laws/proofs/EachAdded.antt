@@ -5,9 +5,9 @@ use Rattle.names.specs.declared.permissions.Permission.TheVariants.{Read, Write}
 use Rattle.names.specs.declared.permissions.Perms.{Perms}
 use Rattle.names.specs.Permissions.{only}
 use Rattle.rule_globs.specs.Each.{Each}
-use Rattle.subject_rules.specs.Restating.{has_some}
-use Rattle.profile_import.specs.AddedRules.{added_at, added_rules, change_of_hat, change_of_profile, queries}
-use Rattle.profile_import.specs.FileRules.{PlacedRule}
+use Rattle.apparmor_rules.specs.Restatement.{has_some}
+use Rattle.import_profile.specs.AddedRules.{added_at, added_rules, change_of_hat, change_of_profile, queries}
+use Rattle.import_profile.specs.FileRules.{PlacedRule}
 
 pub each_of_both : {A : Type 0} (P : A → Type 0) (xs ys : List A) → Each P xs → Each P ys → Each P (xs ++ ys)
 each_of_both P [] ys h g = g

@@ -3,22 +3,22 @@ use Rattle.std.proofs.Common.{◌≡◌, Bool, true, false, cond, List, [], ◌�
 use Rattle.std.specs.List.{All}
 use Rattle.std.proofs.lemmas.List.Elements.{All-cons, All-nil}
 use Rattle.rule_globs.specs.Each.{Each}
-use Rattle.flat_text.specs.Laws.{IsItem}
-use Rattle.flat_text.specs.Parts.{ItemValue}
-use Rattle.profile_variables.specs.Variables.{Variable}
-use Rattle.subject_rules.specs.declared.effect.Change.{Change}
-use Rattle.subject_rules.specs.declared.effect.Effect.{Effect}
-use Rattle.subject_rules.specs.declared.subject.Subject.{Subject}
-use Rattle.subject_rules.specs.Changes.{change}
-use Rattle.subject_rules.specs.Restating.{shape_of}
-use Rattle.subject_rules.specs.SubjectRules.{SubjectRule}
-use Rattle.import_cut.specs.declared.reading.Choice.{Choice}
-use Rattle.import_cut.specs.declared.reading.RuleReading.{RuleReading}
-use Rattle.import_cut.specs.CutStates.{CutState, at_start}
-use Rattle.import_cut.specs.Cutting.{cut_item, cut_items, cut_of, is_chosen_rule}
-use Rattle.import_cut.specs.ReadRules.{IsReadRule}
-use Rattle.profile_import.specs.FileRules.{PlacedRule, item_reading, rules_at, rules_in, subject_rule}
-use Rattle.profile_import.proofs.ToldShapes.{told_change}
+use Rattle.apparmor_text.specs.Laws.{IsItem}
+use Rattle.apparmor_text.specs.Parts.{ItemValue}
+use Rattle.apparmor_variables.specs.Variables.{Variable}
+use Rattle.apparmor_rules.specs.declared.effect.Extent.{Extent}
+use Rattle.apparmor_rules.specs.declared.effect.Effect.{Effect}
+use Rattle.apparmor_rules.specs.declared.subject.Subject.{Subject}
+use Rattle.apparmor_rules.specs.Changes.{change}
+use Rattle.apparmor_rules.specs.Restatement.{shape_of}
+use Rattle.apparmor_rules.specs.SubjectRules.{SubjectRule}
+use Rattle.import_spans.specs.declared.context.Choice.{Choice}
+use Rattle.import_spans.specs.declared.context.RuleReading.{RuleReading}
+use Rattle.import_spans.specs.CutStates.{CutState, at_start}
+use Rattle.import_spans.specs.Cuts.{cut_item, cut_items, cut_of, is_chosen_rule}
+use Rattle.import_spans.specs.ReadRules.{IsReadRule}
+use Rattle.import_profile.specs.FileRules.{PlacedRule, item_reading, rules_at, rules_in, subject_rule}
+use Rattle.import_profile.proofs.ToldShapes.{told_change}
 use Rattle.import_laws.specs.Imported.{plain_rules}
 use Rattle.import_laws.proofs.EachAdded.{each_of_both}
 use Rattle.import_laws.proofs.SpansBefore.{Tells}
@@ -33,7 +33,7 @@ all_plain P [] h = All-nil P
 all_plain P (r ∷ rules) h = All-cons P r.rule (plain_rules rules) h.0 (all_plain P rules h.1)
 
 -- by the change that is read off an effect, for a subject
-module _ (on : Effect → Change) (subject : Subject) (R : Change → Type 0) (variables : List Variable) (choice : Choice) where
+module _ (on : Effect → Extent) (subject : Subject) (R : Extent → Type 0) (variables : List Variable) (choice : Choice) where
   abbrev reading : ItemValue → RuleReading
   reading item = item_reading variables choice.subject item
 
@@ -76,7 +76,7 @@ module _ (on : Effect → Change) (subject : Subject) (R : Change → Type 0) (v
         )
         here false e = tt
 
-    -- what is told of the rules of a text, and of those that are added to it, holds of all
+    -- what is said of the rules of a text, and of those that are added to it, holds of all
     pub all_told : (items : List ItemValue) (added : List PlacedRule) → Each IsItem items → Tells on R (cut_of reading choice items).spans
         → Each IsTold added → All (λ rule. R (change choice.subject subject (shape_of rule)))
         (plain_rules (rules_in variables choice.subject items (at_start choice) ++ added))

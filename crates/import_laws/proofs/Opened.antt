@@ -1,20 +1,20 @@
 -- An import that results in a profile: which items it is of, and which of their profiles.
 use Rattle.std.proofs.Common.{◌≡◌, ℕ, Bool, true, false, List, map, length, Option, Some, None, Ok, Err, refl}
 use Rattle.std.specs.Prelude.{slice_get, option_map}
-use Rattle.flat_text.specs.Parts.{ItemValue}
-use Rattle.flat_text.specs.Texts.{ReadsItems}
-use Rattle.flat_words.specs.Steps.{Stop}
-use Rattle.import_cut.specs.declared.span.Span.{Span}
+use Rattle.apparmor_text.specs.Parts.{ItemValue}
+use Rattle.apparmor_text.specs.Texts.{ReadsItems}
+use Rattle.apparmor_words.specs.Steps.{Stop}
+use Rattle.import_spans.specs.declared.span.Span.{Span}
 use Rattle.import_scope.specs.Scopes as scopes
 use Rattle.import_scope.specs.Scopes.{Head, ScopeState, at_start, behind_all}
 use Rattle.import_scope.specs.FirstFaults.{FirstFault, variables_within}
-use Rattle.profile_variables.specs.Variables.{Variable}
-use Rattle.rule_profile.specs.Limits.{max_rules}
-use Rattle.profile_import.specs.declared.options.ImportOptions.{ImportOptions}
-use Rattle.profile_import.specs.Faults.{which, too_many_rules, not_exact}
-use Rattle.profile_import.specs.Restated.{PlacedValue, cut_for, all_rules, restated_rules}
-use Rattle.profile_import.specs.Imports.{ImportValue, Outcome, Imports, choice_of, chosen_number, first_change, strict_outcome}
-use Rattle.profile_import.specs.Imports.{head_outcome, read_outcome}
+use Rattle.apparmor_variables.specs.Variables.{Variable}
+use Rattle.rule_profile.specs.Limits.{most_rules}
+use Rattle.import_profile.specs.declared.options.ImportOptions.{ImportOptions}
+use Rattle.import_profile.specs.Faults.{which, too_many_rules, not_exact}
+use Rattle.import_profile.specs.Restated.{PlacedValue, cut_for, all_rules, restated_rules}
+use Rattle.import_profile.specs.Imports.{ImportValue, Outcome, Imports, choice_of, chosen_number, first_change, strict_outcome}
+use Rattle.import_profile.specs.Imports.{head_outcome, read_outcome}
 
 -- after all items
 abbrev pub end_of : ImportOptions → List ItemValue → ScopeState
@@ -47,7 +47,7 @@ pub record Opened (options : ImportOptions) (text : List ℕ) (value : ImportVal
   pub chosen : chosen_number (asked options) (end_of options items).profiles ≡ Some number
   pub found : slice_get (end_of options items).profiles number ≡ Some head
   pub is : value ≡ import_of options items number head
-  pub few : slice_get (placed_values options items number head) max_rules ≡ None
+  pub few : slice_get (placed_values options items number head) most_rules ≡ None
 
 -- ---- outcomes that are no fault
 
@@ -80,7 +80,7 @@ module _ (options : ImportOptions) (text : List ℕ) (value : ImportValue) (item
   by_head number chosen None found e = absurd cc
   by_head number chosen (Some head) found e =
       let both = by_count options.strict (import_of options items number head) value
-      (slice_get (placed_values options items number head) max_rules) e in
+      (slice_get (placed_values options items number head) most_rules) e in
       record {
         items = items;
         number = number;

@@ -10,23 +10,23 @@ use Rattle.names.specs.Permissions.{conflicts}
 use Rattle.rule_globs.specs.Each.{Each}
 use Rattle.rule_globs.specs.Tokens.{Token}
 use Rattle.rule_profile.specs.Readable.{is_name, is_path, is_rule}
-use Rattle.flat_text.specs.Parts.{ItemValue}
-use Rattle.subject_rules.specs.declared.subject.Subject.{Subject}
-use Rattle.subject_rules.specs.Restating.{has_some, is_restated, restated, restated_all, restated_paths, restated_perms, shape_of}
-use Rattle.subject_rules.specs.Restating.{can_be_said as can_be_restated, fitting_letters, with_path}
-use Rattle.subject_rules.specs.SubjectRules.{SubjectPath, SubjectRule, read, unread}
-use Rattle.subject_rules.specs.Subjects.{applies_to}
-use Rattle.subject_rules.proofs.RestatedPerms.{fitting, some_fitting}
-use Rattle.import_cut.specs.CutStates.{CutState}
-use Rattle.import_cut.specs.Cutting.{cut_item, is_chosen_rule}
-use Rattle.import_paths.specs.ImportedPaths.{imported_paths}
+use Rattle.apparmor_text.specs.Parts.{ItemValue}
+use Rattle.apparmor_rules.specs.declared.subject.Subject.{Subject}
+use Rattle.apparmor_rules.specs.Restatement.{has_some, is_restated, restated, restated_all, restated_paths, restated_perms, shape_of}
+use Rattle.apparmor_rules.specs.Restatement.{can_be_said as can_be_restated, fitting_letters, with_path}
+use Rattle.apparmor_rules.specs.SubjectRules.{SubjectPath, SubjectRule, read, unread}
+use Rattle.apparmor_rules.specs.Subjects.{applies_to}
+use Rattle.apparmor_rules.proofs.RestatedPerms.{fitting, some_fitting}
+use Rattle.import_spans.specs.CutStates.{CutState}
+use Rattle.import_spans.specs.Cuts.{cut_item, is_chosen_rule}
+use Rattle.import_profile.specs.ImportedPaths.{imported_paths}
 use Rattle.import_scope.specs.FirstFaults.{Counted, nothing_counted, FirstFaultFrom, FirstFault, none_left, at_head, at_path, later}
 use Rattle.import_scope.specs.Scopes.{Fault, Head, ScopeState, behind, behind_all, can_be_said}
 use Rattle.import_scope.specs.inner.Outlines.{head_stop}
-use Rattle.import_scope.proofs.Extending.{AreNamed, last_is_behind, named_last}
-use Rattle.profile_variables.specs.Variables.{Variable}
-use Rattle.profile_import.specs.AddedRules.{added_rules}
-use Rattle.profile_import.specs.FileRules.{PlacedRule, item_reading, path_as, rule_text, rules_at, rules_in, subject_rule}
+use Rattle.import_scope.proofs.Extensions.{AreNamed, last_is_behind, named_last}
+use Rattle.apparmor_variables.specs.Variables.{Variable}
+use Rattle.import_profile.specs.AddedRules.{added_rules}
+use Rattle.import_profile.specs.FileRules.{PlacedRule, item_reading, path_as, rule_text, rules_at, rules_in, subject_rule}
 use Rattle.import_laws.specs.Imported.{plain_rules}
 use Rattle.import_laws.proofs.EachAdded.{each_of_both, of_each_added}
 

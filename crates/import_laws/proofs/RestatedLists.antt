@@ -2,10 +2,10 @@
 use Rattle.std.proofs.Common.{◌≡◌, ℕ, List, [], ◌∷◌, ◌++◌, map, refl, ap, ap₂, ◌∙◌}
 use Rattle.std.proofs.lemmas.List.{map-append}
 use Rattle.rule_globs.specs.Rules.{RuleValue}
-use Rattle.subject_rules.specs.declared.subject.Subject.{Subject}
-use Rattle.subject_rules.specs.Restating.{restated, restated_all}
-use Rattle.profile_import.specs.FileRules.{PlacedRule}
-use Rattle.profile_import.specs.Restated.{PlacedValue, restated_at, restated_rules}
+use Rattle.apparmor_rules.specs.declared.subject.Subject.{Subject}
+use Rattle.apparmor_rules.specs.Restatement.{restated, restated_all}
+use Rattle.import_profile.specs.FileRules.{PlacedRule}
+use Rattle.import_profile.specs.Restated.{PlacedValue, restated_at, restated_rules}
 use Rattle.import_laws.specs.Imported.{plain_rules}
 
 abbrev pub plain_values : List PlacedValue → List RuleValue

@@ -2,31 +2,31 @@
 use Rattle.std.proofs.Common.{◌≡◌, ◌==◌, Bool, true, false, cond, List, [], ◌∷◌, ◌++◌, length, refl}
 use Rattle.std.proofs.lemmas.Bool.{eqb-true}
 use Rattle.rule_globs.specs.Each.{Each}
-use Rattle.flat_text.specs.declared.part.ItemKind.{ItemKind}
-use Rattle.flat_text.specs.declared.part.ItemKind.TheVariants as items
-use Rattle.flat_text.specs.Parts.{PartValue, ItemValue}
-use Rattle.flat_rules.specs.RuleParts.{rule_whats}
-use Rattle.flat_rules.specs.RuleWords.{has_part}
-use Rattle.import_account.specs.declared.what.What.{What}
-use Rattle.import_account.specs.declared.what.What.TheVariants as whats
-use Rattle.subject_rules.specs.declared.effect.Change.{Change}
-use Rattle.subject_rules.specs.declared.effect.Effect.{Effect}
-use Rattle.subject_rules.specs.declared.subject.Subject.{Subject}
-use Rattle.subject_rules.specs.Changes.{effect}
-use Rattle.subject_rules.specs.Restating.{is_restated}
-use Rattle.import_cut.specs.declared.cut.Phase.{Phase}
-use Rattle.import_cut.specs.declared.cut.Phase.TheVariants.{Outer, Skipping, Chosen}
-use Rattle.import_cut.specs.declared.cut.Run.{Run}
-use Rattle.import_cut.specs.declared.reading.RuleReading.{RuleReading}
-use Rattle.import_cut.specs.declared.span.Span.{Span}
-use Rattle.import_cut.specs.declared.span.SpanKind.{SpanKind}
-use Rattle.import_cut.specs.declared.span.SpanKind.TheVariants.{Kept}
-use Rattle.import_cut.specs.PartSpans.{told, plain_kind, head_kind, rule_kind, statement_whats, statement_effect, changes_profile}
-use Rattle.import_cut.specs.CutStates.{CutState, pass, put, enter, opened, closed, with_hat, with_change, passed, put_item}
-use Rattle.import_cut.specs.Cutting.{run_kind, behind_run, start_run, marked, chosen_head, outer_head, run_head, child_head, run_close}
-use Rattle.import_cut.specs.Cutting.{chosen_close, statement_item, chosen_rule, outer_item, run_item, chosen_item, plain_item}
-use Rattle.import_cut.specs.Cutting.{is_chosen_rule, is_hat, cut_item, cut_items, rest_kind, finished}
-use Rattle.import_cut.specs.ReadRules.{told_of}
+use Rattle.apparmor_text.specs.declared.part.ItemKind.{ItemKind}
+use Rattle.apparmor_text.specs.declared.part.ItemKind.TheVariants as items
+use Rattle.apparmor_text.specs.Parts.{PartValue, ItemValue}
+use Rattle.apparmor_rules.specs.RuleParts.{rule_whats}
+use Rattle.apparmor_rules.specs.RuleWords.{has_part}
+use Rattle.apparmor_rules.specs.declared.what.What.{What}
+use Rattle.apparmor_rules.specs.declared.what.What.TheVariants as whats
+use Rattle.apparmor_rules.specs.declared.effect.Extent.{Extent}
+use Rattle.apparmor_rules.specs.declared.effect.Effect.{Effect}
+use Rattle.apparmor_rules.specs.declared.subject.Subject.{Subject}
+use Rattle.apparmor_rules.specs.Changes.{effect}
+use Rattle.apparmor_rules.specs.Restatement.{is_restated}
+use Rattle.import_spans.specs.declared.cut.Phase.{Phase}
+use Rattle.import_spans.specs.declared.cut.Phase.TheVariants.{Outer, Skipping, Chosen}
+use Rattle.import_spans.specs.declared.cut.Run.{Run}
+use Rattle.import_spans.specs.declared.context.RuleReading.{RuleReading}
+use Rattle.import_spans.specs.declared.span.Span.{Span}
+use Rattle.import_spans.specs.declared.span.SpanKind.{SpanKind}
+use Rattle.import_spans.specs.declared.span.SpanKind.TheVariants.{Kept}
+use Rattle.import_spans.specs.PartSpans.{told, plain_kind, head_kind, rule_kind, statement_whats, statement_effect, changes_profile}
+use Rattle.import_spans.specs.CutStates.{CutState, pass, put, enter, opened, closed, with_hat, with_change, passed, put_item}
+use Rattle.import_spans.specs.Cuts.{run_kind, behind_run, start_run, marked, chosen_head, outer_head, run_head, child_head, run_close}
+use Rattle.import_spans.specs.Cuts.{chosen_close, statement_item, chosen_rule, outer_item, run_item, chosen_item, plain_item}
+use Rattle.import_spans.specs.Cuts.{is_chosen_rule, is_hat, cut_item, cut_items, rest_kind, finished}
+use Rattle.import_spans.specs.ReadRules.{told_of}
 
 -- parts that each are a span, of the kind that this says
 abbrev pub put_each : (Subject → PartValue → SpanKind) → List PartValue → CutState → CutState
@@ -58,7 +58,7 @@ each_before : {A : Type 0} (P : A → Type 0) (xs : List A) (x : A) → Each P (
 each_before P [] x h = (tt, h.0)
 each_before P (y ∷ xs) x h = let g = each_before P xs x h.1 in ((h.0, g.0), g.1)
 
-module _ (on : Effect → Change) (R : Change → Type 0) where
+module _ (on : Effect → Extent) (R : Extent → Type 0) where
   -- R holds of each change that is reported for these spans
   abbrev pub Tells : List Span → Type 0
   Tells spans = Each (λ (span : Span). R (told_of on span.kind)) spans

@@ -3,36 +3,36 @@ use Rattle.std.proofs.Common.{◌≡◌, ℕ, suc, ◌+◌, ◌-◌, ◌≤◌, 
 use Rattle.std.proofs.Common.{◌∙◌, subst, arith}
 use Rattle.std.proofs.lemmas.Bool.{eqb-true}
 use Rattle.rule_globs.specs.Each.{Each}
-use Rattle.flat_text.specs.declared.part.PartKind.{PartKind}
-use Rattle.flat_text.specs.declared.part.PartKind.TheVariants as kinds
-use Rattle.flat_text.specs.declared.part.ItemKind.{ItemKind}
-use Rattle.flat_text.specs.declared.part.ItemKind.TheVariants as items
-use Rattle.flat_text.specs.Laws.{IsPart, IsItem}
-use Rattle.flat_text.specs.Parts.{PartValue, ItemValue}
-use Rattle.import_account.specs.declared.what.What.{What}
-use Rattle.import_account.specs.declared.what.What.TheVariants as whats
-use Rattle.subject_rules.specs.declared.effect.Change.{Change}
-use Rattle.subject_rules.specs.declared.effect.Change.TheVariants.{Exact}
-use Rattle.subject_rules.specs.declared.mode.Mode.{Mode}
-use Rattle.subject_rules.specs.declared.mode.Mode.TheVariants.{Enforcing, Permissive, Unconfined}
-use Rattle.subject_rules.specs.declared.subject.Subject.{Subject}
-use Rattle.subject_rules.specs.declared.effect.Effect.{Effect}
-use Rattle.subject_rules.specs.Changes.{mode_change, mode_effect}
-use Rattle.import_cut.specs.declared.cut.Phase.{Phase}
-use Rattle.import_cut.specs.declared.cut.Phase.TheVariants.{Outer, Skipping, Chosen}
-use Rattle.import_cut.specs.declared.cut.Run.{Run}
-use Rattle.import_cut.specs.declared.reading.Choice.{Choice}
-use Rattle.import_cut.specs.declared.reading.RuleReading.{RuleReading}
-use Rattle.import_cut.specs.declared.span.SpanKind.{SpanKind}
-use Rattle.import_cut.specs.declared.span.SpanKind.TheVariants.{Kept}
-use Rattle.import_cut.specs.Modes.{more_permissive, part_mode, mode_with_parts, mode_of_flags, mode_of_head}
-use Rattle.import_cut.specs.PartSpans.{told, head_kind, statement_whats, statement_effect, changes_profile}
-use Rattle.import_cut.specs.CutStates.{CutState, at_start, pass, put, enter, opened, closed, with_hat, with_change, passed, put_item}
-use Rattle.import_cut.specs.Cutting.{run_kind, behind_run, start_run, marked, chosen_head, outer_head, run_head, run_close, statement_item}
-use Rattle.import_cut.specs.Cutting.{chosen_rule, outer_item, run_item, plain_item, is_chosen, is_rule, cut_item, cut_items, cut_of}
-use Rattle.import_cut.specs.Cutting.{finished, is_hat}
-use Rattle.flat_rules.specs.RuleWords.{has_part}
-use Rattle.import_cut.specs.ReadRules.{told_of}
+use Rattle.apparmor_text.specs.declared.part.PartKind.{PartKind}
+use Rattle.apparmor_text.specs.declared.part.PartKind.TheVariants as kinds
+use Rattle.apparmor_text.specs.declared.part.ItemKind.{ItemKind}
+use Rattle.apparmor_text.specs.declared.part.ItemKind.TheVariants as items
+use Rattle.apparmor_text.specs.Laws.{IsPart, IsItem}
+use Rattle.apparmor_text.specs.Parts.{PartValue, ItemValue}
+use Rattle.apparmor_rules.specs.declared.what.What.{What}
+use Rattle.apparmor_rules.specs.declared.what.What.TheVariants as whats
+use Rattle.apparmor_rules.specs.declared.effect.Extent.{Extent}
+use Rattle.apparmor_rules.specs.declared.effect.Extent.TheVariants.{Exact}
+use Rattle.apparmor_rules.specs.declared.mode.Mode.{Mode}
+use Rattle.apparmor_rules.specs.declared.mode.Mode.TheVariants.{Enforcing, Permissive, Unconfined}
+use Rattle.apparmor_rules.specs.declared.subject.Subject.{Subject}
+use Rattle.apparmor_rules.specs.declared.effect.Effect.{Effect}
+use Rattle.apparmor_rules.specs.Changes.{mode_change, mode_effect}
+use Rattle.import_spans.specs.declared.cut.Phase.{Phase}
+use Rattle.import_spans.specs.declared.cut.Phase.TheVariants.{Outer, Skipping, Chosen}
+use Rattle.import_spans.specs.declared.cut.Run.{Run}
+use Rattle.import_spans.specs.declared.context.Choice.{Choice}
+use Rattle.import_spans.specs.declared.context.RuleReading.{RuleReading}
+use Rattle.import_spans.specs.declared.span.SpanKind.{SpanKind}
+use Rattle.import_spans.specs.declared.span.SpanKind.TheVariants.{Kept}
+use Rattle.import_spans.specs.Modes.{more_permissive, part_mode, mode_with_parts, mode_of_flags, mode_of_head}
+use Rattle.import_spans.specs.PartSpans.{told, head_kind, statement_whats, statement_effect, changes_profile}
+use Rattle.import_spans.specs.CutStates.{CutState, at_start, pass, put, enter, opened, closed, with_hat, with_change, passed, put_item}
+use Rattle.import_spans.specs.Cuts.{run_kind, behind_run, start_run, marked, chosen_head, outer_head, run_head, run_close, statement_item}
+use Rattle.import_spans.specs.Cuts.{chosen_rule, outer_item, run_item, plain_item, is_chosen, is_rule, cut_item, cut_items, cut_of}
+use Rattle.import_spans.specs.Cuts.{finished, is_hat}
+use Rattle.apparmor_rules.specs.RuleWords.{has_part}
+use Rattle.import_spans.specs.ReadRules.{told_of}
 use Rattle.import_laws.specs.Imported.{mode_from, opens_profile}
 use Rattle.import_laws.proofs.SpansBefore.{Tells, before_end, before_parts, head_part, plain_part, put_cases, put_each, put_is_told}
 
@@ -49,10 +49,10 @@ marked_fits parts s fits = at (has_part is_hat parts)
 -- ---- flags
 
 -- the change of a mode is read off its effect
-abbrev pub ReadsModes : (Effect → Change) → Type 0
+abbrev pub ReadsModes : (Effect → Extent) → Type 0
 ReadsModes on = (chosen : Subject) (mode : Mode) → on (mode_effect chosen mode) ≡ mode_change mode
 
-module _ (on : Effect → Change) (reads : ReadsModes on) (R : Change → Type 0) (exact : R Exact) where
+module _ (on : Effect → Extent) (reads : ReadsModes on) (R : Extent → Type 0) (exact : R Exact) where
   part_told : (chosen : Subject) (kind : PartKind) (bytes : List ℕ) → R (told_of on (head_kind chosen kind bytes)) →
       R (mode_change (part_mode kind bytes))
   part_told chosen kinds.Flags bytes h = subst R (reads chosen (mode_of_flags bytes)) h
@@ -106,7 +106,7 @@ not_chosen Chosen depth b h = absurd h
 behind_is_outer : (floor depth : ℕ) → floor ≡ 0 → depth ≡ 0 → IsBefore (behind_run floor) depth
 behind_is_outer floor depth e h = subst (λ (n : ℕ). IsBefore (behind_run n) depth) (sym e) h
 
-module _ (on : Effect → Change) (reads : ReadsModes on) (R : Change → Type 0) (exact : R Exact) (c : Choice) where
+module _ (on : Effect → Extent) (reads : ReadsModes on) (R : Extent → Type 0) (exact : R Exact) (c : Choice) where
   abbrev Is : ℕ → CutState → Type 0
   Is heads s = Before c heads s.choice s.heads s.depth s.at s.from s.phase
 

@@ -1,20 +1,20 @@
 -- An import, and AppArmor's own rules and mode that it is made of.
 use Rattle.std.specs.Prelude.{◌≡◌, ℕ, suc, ◌==◌, List, [], ◌∷◌, map, slice_get, Some, None, option_map, Bool, true, false, if◌then◌else◌}
-use Rattle.flat_text.specs.declared.part.ItemKind.{ItemKind}
-use Rattle.flat_text.specs.declared.part.ItemKind.TheVariants as items
-use Rattle.flat_text.specs.Parts.{ItemValue}
-use Rattle.flat_text.specs.Texts.{ReadsItems}
-use Rattle.import_cut.specs.Modes.{mode_of_head}
+use Rattle.apparmor_text.specs.declared.part.ItemKind.{ItemKind}
+use Rattle.apparmor_text.specs.declared.part.ItemKind.TheVariants as items
+use Rattle.apparmor_text.specs.Parts.{ItemValue}
+use Rattle.apparmor_text.specs.Texts.{ReadsItems}
+use Rattle.import_spans.specs.Modes.{mode_of_head}
 use Rattle.import_scope.specs.Scopes.{Head, at_start, behind_all}
 use Rattle.import_scope.specs.FirstFaults.{FirstFault, variables_within}
-use Rattle.profile_import.specs.declared.options.ImportOptions.{ImportOptions}
-use Rattle.profile_import.specs.FileRules.{PlacedRule}
-use Rattle.profile_import.specs.Imports.{ImportValue, chosen_number, choice_of}
-use Rattle.profile_import.specs.Restated.{all_rules, cut_for}
-use Rattle.profile_variables.specs.Variables.{Variable}
-use Rattle.subject_rules.specs.declared.mode.Mode.{Mode}
-use Rattle.subject_rules.specs.declared.mode.Mode.TheVariants.{Enforcing}
-use Rattle.subject_rules.specs.SubjectRules.{SubjectRule}
+use Rattle.import_profile.specs.declared.options.ImportOptions.{ImportOptions}
+use Rattle.import_profile.specs.FileRules.{PlacedRule}
+use Rattle.import_profile.specs.Imports.{ImportValue, chosen_number, choice_of}
+use Rattle.import_profile.specs.Restated.{all_rules, cut_for}
+use Rattle.apparmor_variables.specs.Variables.{Variable}
+use Rattle.apparmor_rules.specs.declared.mode.Mode.{Mode}
+use Rattle.apparmor_rules.specs.declared.mode.Mode.TheVariants.{Enforcing}
+use Rattle.apparmor_rules.specs.SubjectRules.{SubjectRule}
 
 abbrev pub opens_profile : ItemKind → Bool
 opens_profile items.Profile = true

@@ -1,2 +1,4 @@
+pub mod CanonicalItems
+pub mod Untold
 pub mod Imported
 pub mod RulesInside

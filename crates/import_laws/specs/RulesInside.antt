@@ -1,12 +1,12 @@
 -- The file rules that are directly in one of the profiles of a text, by its braces.
 use Rattle.std.specs.Prelude.{ℕ, ◌+◌, List, [], ◌∷◌, ◌++◌, length, ◌&&◌, if◌then◌else◌}
-use Rattle.flat_text.specs.Parts.{ItemValue, bytes_of_parts}
-use Rattle.import_cut.specs.Cutting.{is_rule}
-use Rattle.import_cut.specs.Nesting.{Nesting, is_innermost, nested}
-use Rattle.profile_variables.specs.Variables.{Variable}
-use Rattle.profile_import.specs.FileRules.{PlacedRule, subject_rule}
+use Rattle.apparmor_text.specs.Parts.{ItemValue, bytes_of_parts}
+use Rattle.import_spans.specs.Cuts.{is_rule}
+use Rattle.import_spans.specs.Nests.{Nesting, is_innermost, nested}
+use Rattle.apparmor_variables.specs.Variables.{Variable}
+use Rattle.import_profile.specs.FileRules.{PlacedRule, subject_rule}
 
--- The rules of these items that are directly in the profile with this number, where so many bytes and this nesting come before.
+-- The rules of these items that are directly in the profile with this number, where this many bytes and this nesting come before.
 abbrev pub rules_inside : List Variable → ℕ → ℕ → Nesting → List ItemValue → List PlacedRule
 rules_inside variables number place n [] = []
 rules_inside variables number place n (item ∷ items) =

@@ -3,35 +3,35 @@ ghost use Rattle.std.specs.Prelude.{◌≡◌, ◌≢◌, ◌↔◌, ℕ, List, 
 ghost use Rattle.names.specs.declared.permissions.Perms.{Perms};
 ghost use Rattle.rule_globs.specs.Each.{Each};
 ghost use Rattle.rule_globs.specs.Verdict.{IsVerdict};
-ghost use Rattle.flat_text.specs.Parts.{ItemValue};
-ghost use Rattle.import_cut.specs.declared.reading.Choice.{Choice};
-ghost use Rattle.import_cut.specs.declared.span.Span.{Span};
-ghost use Rattle.import_cut.specs.CutStates.{at_start};
-ghost use Rattle.import_cut.specs.Nesting.{in_none, is_rule_of};
-ghost use Rattle.import_cut.specs.ReadRules.{change_told, change_told_to_other, IsWithin};
-ghost use Rattle.profile_import.specs.FileRules.{rules_in, subject_rule};
-ghost use Rattle.profile_variables.specs.Variables.{Variable};
-ghost use Rattle.subject_rules.specs.Changes.{change};
-ghost use Rattle.subject_rules.specs.Subjects.{other_subject};
-ghost use Rattle.profile_import.specs.declared.options.ImportOptions.{ImportOptions};
-ghost use Rattle.profile_import.specs.Imports.{ImportValue, Imports};
-ghost use Rattle.subject_rules.specs.declared.effect.Change.TheVariants.{Exact, Wider, Narrower};
-ghost use Rattle.subject_rules.specs.declared.mode.Mode.{Mode};
-ghost use Rattle.subject_rules.specs.Judging.{IsAllowedTo};
-ghost use Rattle.subject_rules.specs.Restating.{restated_all, shape_of};
-ghost use Rattle.subject_rules.specs.SubjectRules.{SubjectRule, Unknown};
+ghost use Rattle.apparmor_text.specs.Parts.{ItemValue};
+ghost use Rattle.import_spans.specs.declared.context.Choice.{Choice};
+ghost use Rattle.import_spans.specs.declared.span.Span.{Span};
+ghost use Rattle.import_spans.specs.CutStates.{at_start};
+ghost use Rattle.import_spans.specs.Nests.{in_none, is_rule_of};
+ghost use Rattle.import_spans.specs.ReadRules.{change_told, change_told_to_other, IsWithin};
+ghost use Rattle.import_profile.specs.FileRules.{rules_in, subject_rule};
+ghost use Rattle.apparmor_variables.specs.Variables.{Variable};
+ghost use Rattle.apparmor_rules.specs.Changes.{change};
+ghost use Rattle.apparmor_rules.specs.Subjects.{other_subject};
+ghost use Rattle.import_profile.specs.declared.options.ImportOptions.{ImportOptions};
+ghost use Rattle.import_profile.specs.Imports.{ImportValue, Imports};
+ghost use Rattle.apparmor_rules.specs.declared.effect.Extent.TheVariants.{Exact, Wider, Narrower};
+ghost use Rattle.apparmor_rules.specs.declared.mode.Mode.{Mode};
+ghost use Rattle.apparmor_rules.specs.SecondJudge.{IsAllowedTo};
+ghost use Rattle.apparmor_rules.specs.Restatement.{restated_all, shape_of};
+ghost use Rattle.apparmor_rules.specs.SubjectRules.{SubjectRule, Unknown};
 ghost use Rattle.names.specs.declared.verdict.Verdict.TheVariants.{Allowed};
 ghost use Rattle.import_laws.specs.Imported.{variables_of, IsImported};
 ghost use Rattle.import_laws.specs.RulesInside.{rules_inside};
 
-use flat_text::{items_are_the_text, texts_have_one_outcome};
-use import_cut::{
+use apparmor_rules::{
+    exact_rules_say_the_same, narrower_rules_allow_no_more, wider_rules_allow_no_less,
+};
+use apparmor_text::{items_are_the_text, texts_have_one_outcome};
+use import_scope::texts_have_one_first_fault;
+use import_spans::{
     changes_are_reported_in_place, chosen_rules_are_by_braces, exact_spans_mean_exact_rules,
     exact_spans_mean_exact_rules_for_the_other,
-};
-use import_scope::texts_have_one_first_fault;
-use subject_rules::{
-    exact_rules_say_the_same, narrower_rules_allow_no_more, wider_rules_allow_no_less,
 };
 
 /// The rules imported from a text are its chosen profile's, restated for the chosen subject.

@@ -4,14 +4,14 @@ ghost use Rattle.rule_globs.specs.Each.{Each};
 ghost use Rattle.rule_reader.specs.Grammar.{ReadsAs};
 ghost use Rattle.rule_profile.specs.Readable.{is_profile};
 ghost use Rattle.rule_writer.specs.Canonical.{canonical};
-ghost use Rattle.import_cut.specs.Spans.{Covers, IsRight};
-ghost use Rattle.profile_import.specs.declared.options.ImportOptions.{ImportOptions};
-ghost use Rattle.profile_import.specs.Imports.{ImportValue, Imports, Outcome};
+ghost use Rattle.import_spans.specs.Spans.{Covers, IsRight};
+ghost use Rattle.import_profile.specs.declared.options.ImportOptions.{ImportOptions};
+ghost use Rattle.import_profile.specs.Imports.{ImportValue, Imports, Outcome};
 
-use flat_text::{items_are_the_text, texts_have_one_outcome};
-use import_cut::{blank_spans_are_blank, spans_cover_the_text};
-use import_paths::imported_paths_can_be_read;
+use apparmor_text::{items_are_the_text, texts_have_one_outcome};
+use import_profile::imported_paths_can_be_read;
 use import_scope::texts_have_one_first_fault;
+use import_spans::{blank_spans_are_blank, spans_cover_the_text};
 use rule_writer::canonical_texts_are_read;
 
 /// An import of a text has exactly one outcome.

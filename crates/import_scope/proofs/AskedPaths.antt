@@ -1,6 +1,6 @@
 -- A path that is asked: the variables are counted, and then its text.
 use Rattle.std.proofs.Common.{◌≡◌, ◌≤◌, ◌+◌, ℕ, true, false, List, length, Ok, Err, Option, Some, None, sym, ap₂, subst, inl, inr, arith}
-use Rattle.profile_variables.specs.Variables.{Variable}
+use Rattle.apparmor_variables.specs.Variables.{Variable}
 use Rattle.import_scope.specs.FirstFaults.{Question, Counted, most_together, is_last, CountBefore, too_much_at, Answers, lists_too_long}
 use Rattle.import_scope.specs.FirstFaults.{no_text, text_too_long, answered}
 use Rattle.import_scope.specs.Scopes.{Fault}

@@ -2,13 +2,13 @@
 use Rattle.std.proofs.Common.{◌≡◌, ◌<◌, ◌≤◌, ◌+◌, ℕ, Bool, true, false, List, [], ◌∷◌, length, drop, Result, Ok, Err, Option, Some}
 use Rattle.std.proofs.Common.{None, refl, sym, ap, ap₂, ◌∙◌, subst, ◌⊎◌, inl, inr, ⊎_elim, arith}
 use Rattle.std.proofs.lemmas.Bool.{cases_lt}
-use Rattle.flat_text.specs.declared.part.ItemKind.{ItemKind}
-use Rattle.flat_text.specs.declared.part.ItemKind.TheVariants as items
-use Rattle.flat_text.specs.Parts.{PartValue, ItemValue}
-use Rattle.profile_variables.specs.Problems.{Problem}
-use Rattle.profile_variables.proofs.CountLaws.{some_count, one_count}
-use Rattle.profile_variables.proofs.PathLaws.{one_path_problem, one_text, text_excludes, some_text}
-use Rattle.profile_variables.specs.Variables.{Variable}
+use Rattle.apparmor_text.specs.declared.part.ItemKind.{ItemKind}
+use Rattle.apparmor_text.specs.declared.part.ItemKind.TheVariants as items
+use Rattle.apparmor_text.specs.Parts.{PartValue, ItemValue}
+use Rattle.apparmor_variables.specs.Problems.{Problem}
+use Rattle.apparmor_variables.proofs.CountLaws.{some_count, one_count}
+use Rattle.apparmor_variables.proofs.PathLaws.{one_path_problem, one_text, text_excludes, some_text}
+use Rattle.apparmor_variables.specs.Variables.{Variable}
 use Rattle.import_scope.specs.FirstFaults.{Question, Counted, question_of, most_together, nothing_counted, is_last, CountBefore}
 use Rattle.import_scope.specs.FirstFaults.{too_much_at, Answers, lists_too_long, no_text, text_too_long, answered, IsPast}
 use Rattle.import_scope.specs.FirstFaults.{FirstFaultFrom, none_left}

@@ -1,6 +1,6 @@
 pub mod VariablePlaces
 pub mod Opened
-pub mod Extending
+pub mod Extensions
 pub mod FaultLaws
 pub mod Passes
 pub mod AskedPaths

@@ -4,12 +4,12 @@ use Rattle.std.proofs.Common.{ap, ap₂, ◌∙◌, subst, ◌⊎◌, inl, inr, 
 use Rattle.std.specs.Prelude.{slice_get, option_and_then, option_map, unwrap_or, Ok, Err}
 use Rattle.std.proofs.lemmas.List.{drop_more}
 use Rattle.std.proofs.lemmas.Option.{slice_get_within}
-use Rattle.flat_text.specs.declared.part.ItemKind.{ItemKind}
-use Rattle.flat_text.specs.declared.part.ItemKind.TheVariants as items
-use Rattle.flat_text.specs.Parts.{PartValue, ItemValue}
-use Rattle.flat_rules.specs.RuleWords.{content, first_bytes, is_path}
-use Rattle.profile_variables.specs.Variables.{Variable}
-use Rattle.profile_variables.proofs.Places.{first_of_two}
+use Rattle.apparmor_text.specs.declared.part.ItemKind.{ItemKind}
+use Rattle.apparmor_text.specs.declared.part.ItemKind.TheVariants as items
+use Rattle.apparmor_text.specs.Parts.{PartValue, ItemValue}
+use Rattle.apparmor_rules.specs.RuleWords.{content, first_bytes, is_path}
+use Rattle.apparmor_variables.specs.Variables.{Variable}
+use Rattle.apparmor_variables.proofs.Places.{first_of_two}
 use Rattle.import_scope.specs.declared.outline.Asked.{Asked}
 use Rattle.import_scope.specs.FirstFaults.{Question, Counted, variables_within, question_of, Answers, IsPast, FirstFaultFrom, none_left}
 use Rattle.import_scope.specs.FirstFaults.{at_head, at_path, later}
@@ -17,7 +17,7 @@ use Rattle.import_scope.specs.ItemWords.{bytes_before}
 use Rattle.import_scope.specs.Scopes.{ScopeState, Head, Fault, first_number, behind, head_fault}
 use Rattle.import_scope.specs.inner.Outlines.{AskedValue, asked_value, asks, last_state, head_stop, all_asked}
 use Rattle.import_scope.specs.inner.Problems.{name_at, question_at, FirstProblem, all_answered, here, further}
-use Rattle.import_scope.proofs.Extending.{Extends, extends_both, extends_behind, extends_last, last_at}
+use Rattle.import_scope.proofs.Extensions.{Extends, extends_both, extends_behind, extends_last, last_at}
 
 -- ---- the questions, one by one
 

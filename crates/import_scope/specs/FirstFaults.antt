@@ -2,14 +2,14 @@
 use Rattle.std.specs.Prelude.{◌≡◌, ◌<◌, ◌≤◌, ◌==◌, ℕ, ◌+◌, List, [], ◌∷◌, length, Result, Ok, Err, Option, Some, None}
 use Rattle.std.specs.Prelude.{option_map, unwrap_or, Bool, true, false}
 use Rattle.std.specs.Option.{option_map_or}
-use Rattle.flat_text.specs.declared.part.ItemKind.{ItemKind}
-use Rattle.flat_text.specs.declared.part.ItemKind.TheVariants as items
-use Rattle.flat_text.specs.Parts.{PartValue, ItemValue}
-use Rattle.flat_rules.specs.RuleWords.{content, first_bytes, is_path}
-use Rattle.profile_variables.specs.Counts.{OthersCount}
-use Rattle.profile_variables.specs.PathTexts.{IsSubstituted, PathProblem}
-use Rattle.profile_variables.specs.Problems.{Problem}
-use Rattle.profile_variables.specs.Variables.{Variable}
+use Rattle.apparmor_text.specs.declared.part.ItemKind.{ItemKind}
+use Rattle.apparmor_text.specs.declared.part.ItemKind.TheVariants as items
+use Rattle.apparmor_text.specs.Parts.{PartValue, ItemValue}
+use Rattle.apparmor_rules.specs.RuleWords.{content, first_bytes, is_path}
+use Rattle.apparmor_variables.specs.Counts.{OthersCount}
+use Rattle.apparmor_variables.specs.PathTexts.{IsSubstituted, PathProblem}
+use Rattle.apparmor_variables.specs.Problems.{Problem}
+use Rattle.apparmor_variables.specs.Variables.{Variable}
 use Rattle.import_scope.specs.ItemWords.{bytes_before}
 use Rattle.import_scope.specs.Scopes.{ScopeState, Fault, in_path, too_much, profile_name, innermost, first_number, behind, head_fault}
 

@@ -1,10 +1,10 @@
 -- What the parts of an item say, where a text is gone through: a variable's name and values, a profile's own name, a rule's path.
 use Rattle.std.specs.Prelude.{ℕ, ◌+◌, ◌-◌, List, [], ◌∷◌, length, take, drop, Some, None, Bool, true, false, if◌then◌else◌}
 use Rattle.rule_reader.specs.TextBytes.{begins, is_quote}
-use Rattle.flat_text.specs.declared.part.PartKind.{PartKind}
-use Rattle.flat_text.specs.declared.part.PartKind.TheVariants as kinds
-use Rattle.flat_text.specs.Parts.{PartValue}
-use Rattle.flat_rules.specs.RuleWords.{content, first_bytes, has_part}
+use Rattle.apparmor_text.specs.declared.part.PartKind.{PartKind}
+use Rattle.apparmor_text.specs.declared.part.PartKind.TheVariants as kinds
+use Rattle.apparmor_text.specs.Parts.{PartValue}
+use Rattle.apparmor_rules.specs.RuleWords.{content, first_bytes, has_part}
 
 abbrev pub is_variable : PartKind → Bool
 is_variable kinds.Variable = true

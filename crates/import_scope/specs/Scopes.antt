@@ -3,11 +3,11 @@ use Rattle.std.specs.Prelude.{ℕ, ◌+◌, ◌==◌, List, [], ◌∷◌, ◌++
 use Rattle.std.specs.Prelude.{option_and_then, Bool, true, false, if◌then◌else◌, ◌&&◌, nat_eq, nat_le}
 use Rattle.std.specs.List.{list_any, ends_with}
 use Rattle.rule_profile.specs.Readable.{is_name}
-use Rattle.flat_text.specs.declared.part.ItemKind.{ItemKind}
-use Rattle.flat_text.specs.declared.part.ItemKind.TheVariants as items
-use Rattle.flat_text.specs.Parts.{PartValue, ItemValue, bytes_of_parts}
-use Rattle.profile_variables.specs.Problems.{Problem}
-use Rattle.profile_variables.specs.Variables.{Variable}
+use Rattle.apparmor_text.specs.declared.part.ItemKind.{ItemKind}
+use Rattle.apparmor_text.specs.declared.part.ItemKind.TheVariants as items
+use Rattle.apparmor_text.specs.Parts.{PartValue, ItemValue, bytes_of_parts}
+use Rattle.apparmor_variables.specs.Problems.{Problem}
+use Rattle.apparmor_variables.specs.Variables.{Variable}
 use Rattle.import_scope.specs.declared.assigned.Define.{Define}
 use Rattle.import_scope.specs.ItemWords.{assigned_name, assigned_values, is_adding, own_name, before_name}
 

@@ -1,5 +1,5 @@
 -- A fault as the code reports it, and as the definitions have it.
-use Rattle.profile_variables.specs.Problems.{undefined, cycle, too_long}
+use Rattle.apparmor_variables.specs.Problems.{undefined, cycle, too_long}
 use Rattle.import_scope.specs.declared.fault.ScopeFault.{ScopeFault}
 use Rattle.import_scope.specs.declared.fault.ScopeFaultKind.{ScopeFaultKind}
 use Rattle.import_scope.specs.declared.fault.ScopeFaultKind.TheVariants as told

@@ -1,10 +1,10 @@
 //! Variables and the values that they have so far.
 ghost use Rattle.std.specs.Prelude.{◌≡◌, ◌++◌, ◌∷◌, [], false, IfOk, OnOk, length, map};
-ghost use Rattle.profile_variables.specs.inner.Known.{place_of};
+ghost use Rattle.apparmor_variables.specs.inner.Known.{place_of};
 ghost use Rattle.import_scope.specs.Scopes.{is_declared, with_variable, with_values, with_defines};
 
+use apparmor_variables::Variable;
 use names::NoMemory;
-use profile_variables::Variable;
 use std::alloc::{AllocError, Global};
 use std::collections::BTreeMap;
 use std::marker::Model;
@@ -25,7 +25,7 @@ struct Assigned<'t> {
 
 impl<'t> Model for Assigned<'t> {
     ghost use Rattle.std.specs.Prelude.{map};
-    ghost use Rattle.profile_variables.specs.Variables.{Variable as DeclaredVariable};
+    ghost use Rattle.apparmor_variables.specs.Variables.{Variable as DeclaredVariable};
 
     ghost Value = { DeclaredVariable };
 
@@ -62,8 +62,8 @@ impl<'t> Model for Assignments<'t> {
     ghost use Rattle.std.specs.BTreeMap.{get_by};
     ghost use Rattle.std.specs.Cmp.Lexicographic.{slice_cmp};
     ghost use Rattle.std.specs.Ordering.{nat_cmp};
-    ghost use Rattle.profile_variables.specs.Variables.{Variable as DeclaredVariable};
-    ghost use Rattle.profile_variables.specs.inner.Known.{place_of};
+    ghost use Rattle.apparmor_variables.specs.Variables.{Variable as DeclaredVariable};
+    ghost use Rattle.apparmor_variables.specs.inner.Known.{place_of};
 
     ghost Value = { List DeclaredVariable };
 

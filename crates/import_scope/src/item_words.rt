@@ -1,11 +1,11 @@
 //! What the parts of an item say.
 ghost use Rattle.std.specs.Prelude.{◌≡◌, ◌≤◌, ◌+◌, ◌^◌, option_map, IfOk, IfSome, None, map};
-ghost use Rattle.flat_rules.specs.RuleWords.{first_bytes, is_path};
+ghost use Rattle.apparmor_rules.specs.RuleWords.{first_bytes, is_path};
 ghost use Rattle.import_scope.specs.ItemWords.{is_variable, is_name_part, bytes_at, bytes_before, variable_name, assigned_name};
 ghost use Rattle.import_scope.specs.ItemWords.{assigned_values, is_adding, own_name, before_name};
 
-use flat_rules::content;
-use flat_text::{Part, PartKind};
+use apparmor_rules::content;
+use apparmor_text::{Part, PartKind};
 use std::alloc::{AllocError, Global};
 
 /// The word that names a variable.

@@ -1,6 +1,6 @@
 //! Laws of first faults. The function does nothing: it stands for its contract.
 ghost use Rattle.std.specs.Prelude.{◌≡◌, List, Option};
-ghost use Rattle.flat_text.specs.Parts.{ItemValue};
+ghost use Rattle.apparmor_text.specs.Parts.{ItemValue};
 ghost use Rattle.import_scope.specs.Scopes.{ScopeState, Fault};
 ghost use Rattle.import_scope.specs.FirstFaults.{FirstFault};
 

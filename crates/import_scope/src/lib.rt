@@ -4,7 +4,7 @@
 //! The definitions to believe are those in `specs/`; those in `specs/inner/` are of private contracts and proofs.
 #![tactic(auto)]
 
-mod asking;
+mod asked_paths;
 mod assigned;
 mod fault;
 mod head;

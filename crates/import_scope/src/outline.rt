@@ -1,7 +1,7 @@
 //! The pass over the items that declares variables, names profiles, and notes which paths are to be asked.
 ghost use Rattle.std.specs.Prelude.{◌≡◌, ◌++◌, [], reverse, IfOk, OnOk, OnErr, option_map, length};
 ghost use Rattle.std.specs.Option.{option_copied};
-ghost use Rattle.flat_text.specs.Parts.{bytes_of_parts};
+ghost use Rattle.apparmor_text.specs.Parts.{bytes_of_parts};
 ghost use Rattle.import_scope.specs.Scopes.{ScopeState, at_start, innermost, is_assigned_wrongly, is_one_too_many, assignment_fault};
 ghost use Rattle.import_scope.specs.Scopes.{name_fault};
 ghost use Rattle.import_scope.specs.Scopes.{can_be_said, assigned, opened, closed, behind, head_fault};
@@ -14,9 +14,9 @@ use crate::head::ProfileHead;
 use crate::item_words::{
     assigned_name, assigned_values, is_adding, name_place, own_name, path_bytes, path_place,
 };
-use flat_rules::content;
-use flat_text::{Item, ItemKind, Part};
-use profile_parts::is_name;
+use apparmor_rules::content;
+use apparmor_text::{Item, ItemKind, Part};
+use rule_making::is_name;
 use std::alloc::{AllocError, Global};
 
 /// The maximum number of variables, with those that are given beforehand.

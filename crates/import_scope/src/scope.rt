@@ -5,13 +5,13 @@ ghost use Rattle.import_scope.specs.Scopes.{at_start, behind_all, can_be_said};
 ghost use Rattle.import_scope.specs.FirstFaults.{FirstFault};
 ghost use Rattle.import_scope.specs.Told.{TellsFault};
 
-use crate::asking::first_problem;
+use crate::asked_paths::first_problem;
 use crate::assigned::Define;
 use crate::fault::ScopeFailure;
 use crate::head::ProfileHead;
 use crate::outline::{Outline, outline_of};
-use flat_text::Item;
-use profile_variables::Variable;
+use apparmor_text::Item;
+use apparmor_variables::Variable;
 use std::alloc::Global;
 
 /// The variables of a text, those that are given beforehand first, and the heads of its profiles in order.

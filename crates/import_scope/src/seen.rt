@@ -2,8 +2,8 @@
 ghost use Rattle.std.specs.Prelude.{◌≡◌, ◌∷◌, [], IfOk, codes};
 ghost use Rattle.import_scope.specs.FirstFaults.{variables_within};
 
+use apparmor_variables::{Lists, Variable};
 use names::NoMemory;
-use profile_variables::{Lists, Variable};
 use std::alloc::{AllocError, Global};
 
 /// The same variable, whose values are lent for a shorter time.

@@ -5,15 +5,15 @@ use Rattle.mediation.specs.Deeds.{policy_after}
 use Rattle.justification.specs.declared.answer.Answer.{Answer}
 use Rattle.row_rule.specs.Row.{count_of}
 use Rattle.row_rule.specs.Steps.{newcomer, beginning, reading, ending, opening, setting, closing}
-use Rattle.event_core.specs.Machine.{Call, Event, Machine}
-use Rattle.event_core.specs.Machine.Event.{begin, read_policy, read_count, read_cell, check_count, answer, open_change, set_cell}
-use Rattle.event_core.specs.Machine.Event.{close_change}
-use Rattle.event_core.specs.Machine.Stage.{begun, walking, checked}
-use Rattle.event_core.specs.Takes.{Moves, Takes, after_policy}
-use Rattle.event_core.specs.Lawful.{IsLawful}
-use Rattle.event_core.specs.Walking.{MayAnswer}
+use Rattle.event_machine.specs.Machine.{Call, Event, Machine}
+use Rattle.event_machine.specs.Machine.Event.{begin, read_policy, read_count, read_cell, check_count, answer, open_change, set_cell}
+use Rattle.event_machine.specs.Machine.Event.{close_change}
+use Rattle.event_machine.specs.Machine.Stage.{begun, walking, checked}
+use Rattle.event_machine.specs.Takes.{Moves, Takes, after_policy}
+use Rattle.event_machine.specs.Lawful.{IsLawful}
+use Rattle.event_machine.specs.WalkSteps.{MayAnswer}
 use Rattle.open_session.specs.Steps.{going_on, at_rest_with, Begins, ReadsPolicy, ReadsCount, ReadsCell, ChecksCount, MayStep, MayTell}
-use Rattle.row_keeper.specs.Keeping.{MayOpen, MaySet, MayClose}
+use Rattle.row_keeper.specs.KeeperSteps.{MayOpen, MaySet, MayClose}
 
 not_taken : (old : Machine) (event : Event) → ((s : ℕ) → event ≢ answer s) → ((new : Machine) → ¬ (Moves old event new)) →
     (told : Option Answer) (new : Machine) → ¬ (Takes old event told new)

@@ -1,7 +1,8 @@
-pub mod Sessions
+pub mod AllSessions
 pub mod Lawful
 pub mod Steps
-pub mod Testing
-pub mod Standing
-pub mod Giving
-pub mod Passing
+pub mod TestedChanges
+pub mod Consistency
+pub mod GivenAnswers
+pub mod PassedEvents
+pub mod Lifts

@@ -3,16 +3,16 @@ use Rattle.std.proofs.Common.{◌≡◌, ℕ, zero, suc, [], Some, None, refl, s
 use Rattle.directory_tree.specs.declared.change.Change.{Change}
 use Rattle.justification.specs.declared.answer.Answer.{Answer}
 use Rattle.row_rule.specs.declared.view.KeeperView.{KeeperView}
-use Rattle.event_core.specs.Machine.{Call, Session, Machine, with_session}
-use Rattle.event_core.specs.Machine.Event.{begin, read_policy, read_count, read_cell, check_count, answer, open_change, set_cell}
-use Rattle.event_core.specs.Machine.Event.{close_change}
-use Rattle.event_core.specs.Takes.{Takes}
-use Rattle.event_core.specs.Runs.{Runs}
-use Rattle.event_core.specs.Lawful.{cell_reads}
+use Rattle.event_machine.specs.Machine.{Call, Session, Machine, with_session}
+use Rattle.event_machine.specs.Machine.Event.{begin, read_policy, read_count, read_cell, check_count, answer, open_change, set_cell}
+use Rattle.event_machine.specs.Machine.Event.{close_change}
+use Rattle.event_machine.specs.Takes.{Takes}
+use Rattle.event_machine.specs.Runs.{Runs}
+use Rattle.event_machine.specs.Lawful.{cell_reads}
 use Rattle.open_session.specs.Steps.{Begins, ReadsPolicy, ReadsCount, ReadsCell, CellReads, ChecksCount, Answers}
-use Rattle.row_keeper.specs.Keeping.{IsOpened, IsSet, IsClosed}
-use Rattle.session_table.specs.Table.{StepsIn}
-use Rattle.interleaving_core.proofs.Sessions.{All_of, own_is, set_same, set_again}
+use Rattle.row_keeper.specs.KeeperSteps.{IsOpened, IsSet, IsClosed}
+use Rattle.interleaving_core.specs.Table.{StepsIn}
+use Rattle.interleaving_core.proofs.AllSessions.{All_of, own_is, set_same, set_again}
 
 -- a machine with these sessions
 abbrev pub with_all : Machine → All_of → Machine

@@ -1,3 +1,4 @@
 pub mod Parts
-pub mod Running
+pub mod Runs
 pub mod inner
+pub mod Table

@@ -2,8 +2,8 @@
 use Rattle.std.specs.Prelude.{ℕ, List}
 use Rattle.mediation.specs.Deeds.{Deed}
 use Rattle.row_rule.specs.declared.view.KeeperView.{KeeperView}
-use Rattle.event_core.specs.Machine.{Session, Machine}
-use Rattle.session_table.specs.Table.{session_in}
+use Rattle.event_machine.specs.Machine.{Session, Machine}
+use Rattle.interleaving_core.specs.Table.{session_in}
 
 -- The sessions are those that began a call, by their numbers, together with the capacity of the row that they read.
 pub record Parts : Type 0 where

@@ -1,4 +1,6 @@
 -- Definitions that only private contracts and proofs use.
-pub mod Standing
-pub mod Stepping
-pub mod Passing
+pub mod Consistency
+pub mod EventSteps
+pub mod PassedEvents
+-- Definitions for private contracts and proofs only.
+pub mod SharedParts

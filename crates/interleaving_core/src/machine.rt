@@ -1,14 +1,14 @@
 //! The machine's parts.
 ghost use Rattle.std.specs.Prelude.{◌≡◌, ◌≤◌, IfOk};
-ghost use Rattle.event_core.specs.Machine.{first};
+ghost use Rattle.event_machine.specs.Machine.{first};
 ghost use Rattle.interleaving_core.specs.Parts.{machine_of};
 
-use event_core::runs_keep_rule;
+use crate::Sessions;
+use event_machine::runs_keep_rule;
 use names::NoMemory;
 use open_session::Policy;
 use path_lookup::Scratch;
-use row_keeper::Keeper;
-use session_table::Sessions;
+use row_keeper::SteppedKeeper;
 use std::alloc::Global;
 use std::marker::Model;
 use tree_row::MOST_ENTRIES;
@@ -19,7 +19,7 @@ use tree_row::MOST_ENTRIES;
 #[derive(Drop)]
 pub struct Core {
     pub(crate) alloc: Global,
-    pub(crate) keeper: Keeper,
+    pub(crate) keeper: SteppedKeeper,
     pub(crate) policy: Policy,
     pub(crate) sessions: Sessions,
     pub(crate) scratch: Scratch,
@@ -30,7 +30,7 @@ impl Model for Core {
 
     ghost Value = { Parts };
 
-    ghost use Rattle.interleaving_core.specs.inner.Standing.{parts_in, IsStanding};
+    ghost use Rattle.interleaving_core.specs.inner.Consistency.{parts_in, IsStanding};
 
     ghost view = { λ c. parts_in c.keeper c.policy c.sessions };
 
@@ -44,7 +44,7 @@ impl Core {
         ensures { IfOk result (λ core. machine_of core ≡ first capacity) }
     {
         runs_keep_rule();
-        let keeper = Keeper::new(alloc, capacity)?;
+        let keeper = SteppedKeeper::new(alloc, capacity)?;
         let policy = Policy::new(alloc);
         let sessions = Sessions::new(alloc, capacity);
         Ok(Core {

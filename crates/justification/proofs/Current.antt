@@ -12,8 +12,8 @@ use Rattle.directory_tree.proofs.Basics.{ok_inj}
 use Rattle.mediation.specs.Deeds.{Deed, policy_after}
 use Rattle.mediation.specs.History.{History, open_answer}
 use Rattle.mediation.specs.Judge.{Judge}
-use Rattle.mediation.specs.Opening.{Reached, Answered, judged, failed, reached, answered_by, judged_file}
-use Rattle.justification.proofs.Agreeing.{one_reach}
+use Rattle.mediation.specs.Opens.{Reached, Answered, judged, failed, reached, answered_by, judged_file}
+use Rattle.justification.proofs.Agreement.{one_reach}
 use Rattle.justification.specs.declared.answer.Answer.TheVariants.{Judged}
 use Rattle.justification.specs.Justified.{Justified}
 use Rattle.justification.specs.Versions.{IsTreeAt}

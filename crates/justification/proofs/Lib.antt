@@ -1,6 +1,7 @@
-pub mod Agreeing
-pub mod Current
-pub mod Growing
-pub mod Later
+pub mod OpenEnds
 pub mod Lookups
+pub mod Agreement
+pub mod Current
+pub mod Growth
+pub mod Later
 pub mod SameVerdicts

@@ -6,7 +6,7 @@ use Rattle.directory_tree.specs.declared.change.Change.{Change}
 use Rattle.directory_tree.specs.Tree.{Tree}
 use Rattle.mediation.specs.Deeds.{Deed}
 use Rattle.mediation.specs.Judge.{Judge, verdict_by}
-use Rattle.mediation.specs.Opening.{Reached, reached}
+use Rattle.mediation.specs.Opens.{Reached, reached}
 use Rattle.justification.specs.declared.answer.Answer.{Answer}
 use Rattle.justification.specs.declared.answer.Answer.TheVariants.{Judged, Failed, NoProfile, Busy, NoEntry}
 use Rattle.justification.specs.Versions.{IsTreeAt, IsPublishedAt}

@@ -1,2 +1,3 @@
 -- Words of private contracts and proofs alone.
-pub mod Reaching
+pub mod Ends
+pub mod Reach

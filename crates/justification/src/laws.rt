@@ -7,7 +7,7 @@ ghost use Rattle.directory_tree.specs.Plain.{tree_of};
 ghost use Rattle.directory_tree.specs.Tree.{Tree};
 ghost use Rattle.mediation.specs.Deeds.{Deed};
 ghost use Rattle.mediation.specs.History.{History, open_answer};
-ghost use Rattle.mediation.specs.Opening.{Reached, judged, reached};
+ghost use Rattle.mediation.specs.Opens.{Reached, judged, reached};
 ghost use Rattle.names.specs.declared.errors.Errno.{Errno};
 ghost use Rattle.names.specs.declared.permissions.Perms.{Perms};
 ghost use Rattle.names.specs.declared.verdict.Verdict.{Verdict};

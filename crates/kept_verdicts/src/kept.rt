@@ -1,8 +1,9 @@
 //! The verdicts that a session keeps.
 ghost use Rattle.std.specs.Prelude.{◌≡◌, ◌⊎◌, ◌≤◌, true, false, [], IfOk, IfSome, Contains};
+ghost use Rattle.names.specs.Limits.{longest_path};
 ghost use Rattle.verdict_cache.specs.Questions.{Asked, Kept};
-ghost use Rattle.verdict_cache.specs.Asking.{asked_of};
-ghost use Rattle.kept_verdicts.specs.Keeping.{kept_of};
+ghost use Rattle.verdict_cache.specs.StructQuestions.{asked_of};
+ghost use Rattle.kept_verdicts.specs.KeptFiles.{kept_of};
 
 use crate::misses::Misses;
 use mediation::Judged;
@@ -80,7 +81,7 @@ impl KeptVerdicts {
     pub fn look(&mut self, question: Question<'_>, room: &mut [u8; NAME_ROOM]) -> Option<Judged>
         ensures entries { (e : Asked × Kept) → Contains self.new e → Contains self.old e }
         ensures found { IfSome result (λ file. Contains self.old (asked_of question.entry, kept_of room.new file)) }
-        ensures fits { IfSome result (λ file. file.name_length ≤ 4095) }
+        ensures fits { IfSome result (λ file. file.name_length ≤ longest_path) }
     {
         entries_stay();
         let Some(cache) = &mut self.cache else {
@@ -105,7 +106,7 @@ impl KeptVerdicts {
     /// Keeps a verdict under the question that was looked up last. If memory is refused, or that question was passed over, it isn't
     /// kept.
     pub fn keep(&mut self, question: Question<'_>, file: &Judged, room: &[u8; NAME_ROOM])
-        requires { file.now.name_length ≤ 4095 }
+        requires { file.now.name_length ≤ longest_path }
         ensures { (e : Asked × Kept) → Contains self.new e →
             Contains self.old e ⊎ (e ≡ (asked_of question.entry, kept_of room.now file.now)) }
     {

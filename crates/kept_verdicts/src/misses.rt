@@ -7,8 +7,8 @@ const IMPATIENT: usize = 16;
 /// One question in this many is then looked up and kept.
 const SAMPLED: usize = 16;
 
-/// What became of the last questions. If more paths are opened by turns than verdicts are kept, each verdict is dropped before it is
-/// asked for again, and keeping it was in vain. If few are kept meanwhile, some of them are there when they are asked for.
+/// What became of the last questions. If more paths are opened in turn than verdicts are kept, each verdict is dropped before it is
+/// asked for again, and keeping it was useless. If few are kept meanwhile, some of them are there when they are asked for.
 ///
 /// At first a whole cache of questions may find nothing before others are passed over; then only [`IMPATIENT`], until a whole cache
 /// of questions in a row found their answers.

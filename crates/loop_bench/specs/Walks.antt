@@ -3,8 +3,8 @@ use Rattle.std.specs.Prelude.{◌≡◌, ◌⊎◌, ℕ, ◌*◌, ◌/◌, ◌^�
 use Rattle.tables.specs.Bounds.{fault_number}
 use Rattle.tables.specs.Tables.{Table, state_after}
 use Rattle.tables.specs.declared.fault.ImageFault.{ImageFault}
-use Rattle.table_verifier.specs.Loading.{IsLoaded, IsRefusedFor}
-use Rattle.loop_bench.specs.declared.running.Walk.{Walk}
+use Rattle.table_verifier.specs.AcceptedImages.{IsLoaded, IsRefusedFor}
+use Rattle.loop_bench.specs.declared.runs.Walk.{Walk}
 
 -- how long each name is, where there are as many as states
 abbrev pub name_length : List ℕ → List ℕ → ℕ

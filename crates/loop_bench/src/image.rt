@@ -1,7 +1,7 @@
 //! Names run through an image in place: one, or many side by side.
 ghost use Rattle.std.specs.Prelude.{◌≡◌, ◌+◌, Some, get_or, length};
 ghost use Rattle.table_batches.specs.Batches.{AreAfter, AreOffsets};
-ghost use Rattle.table_verifier.specs.Loading.{IsLoaded};
+ghost use Rattle.table_verifier.specs.AcceptedImages.{IsLoaded};
 ghost use Rattle.tables.specs.Tables.{Table, state_after};
 
 use table_batches::run_names_by_image;

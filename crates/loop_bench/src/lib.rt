@@ -6,6 +6,6 @@
 #![tactic(auto)]
 
 mod image;
-mod running;
+mod runs;
 
-pub use running::Walk;
+pub use runs::Walk;

@@ -6,12 +6,12 @@ use Rattle.names.specs.declared.record.Record.{Record}
 use Rattle.glob_automaton.specs.Automata.{Automaton, IsAutomatonOf}
 use Rattle.glob_automaton.specs.Least.{IsLeastRecord}
 use Rattle.names.specs.Records.{IsTold}
-use Rattle.matcher.specs.Telling.{TellsLeastHits, TellsVerdicts}
+use Rattle.matcher.specs.TableVerdicts.{TellsLeastHits, TellsVerdicts}
 use Rattle.rule_globs.specs.PlainVerdict.{verdict}
 use Rattle.rule_profile.specs.Profile.{RuleValue}
 use Rattle.rule_globs.specs.Verdict.{IsVerdict}
 use Rattle.names.specs.declared.verdict.Verdict.{Verdict}
-use Rattle.table_image.specs.Packing.{IsTableOf}
+use Rattle.table_image.specs.PackedTables.{IsTableOf}
 use Rattle.tables.specs.Tables.{Table}
 
 -- the table of an automaton of rules leads to their least hits

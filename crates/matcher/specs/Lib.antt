@@ -1,3 +1,3 @@
-pub mod Telling
-pub mod Making
+pub mod TableVerdicts
+pub mod MakeFaults
 pub mod Profiles

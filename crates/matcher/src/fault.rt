@@ -1,6 +1,6 @@
 //! Why a profile isn't made.
 ghost use Rattle.std.specs.Prelude.{◌≡◌};
-ghost use Rattle.matcher.specs.Making.{fault_number};
+ghost use Rattle.matcher.specs.MakeFaults.{fault_number};
 
 use glob_automaton::CompileFault;
 use names::NoMemory;
@@ -30,7 +30,7 @@ impl MakeFault {
 }
 
 impl From<CompileFault> for MakeFault {
-    ghost use Rattle.matcher.specs.Making.{made_of};
+    ghost use Rattle.matcher.specs.MakeFaults.{made_of};
 
     ghost from_gives = { λ fault given. given ≡ made_of fault };
 

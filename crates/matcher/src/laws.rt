@@ -1,6 +1,6 @@
 //! Laws of tables of rules.
 ghost use Rattle.std.specs.Prelude.{List};
-ghost use Rattle.matcher.specs.Telling.{TellsLeastHits, TellsVerdicts};
+ghost use Rattle.matcher.specs.TableVerdicts.{TellsLeastHits, TellsVerdicts};
 ghost use Rattle.rule_profile.specs.Profile.{RuleValue};
 ghost use Rattle.tables.specs.Tables.{Table};
 

@@ -1,11 +1,11 @@
 -- The answers to opens, as text.
 use Rattle.std.specs.Prelude.{◌≡◌, ℕ, List, [], codes}
 use Rattle.names.specs.declared.permissions.Perms.{Perms}
-use Rattle.mediation.specs.Opening.{judged, failed, no_profile}
+use Rattle.mediation.specs.Opens.{judged, failed, no_profile}
 use Rattle.justification.specs.declared.answer.Answer.{Answer}
 use Rattle.justification.specs.declared.answer.Answer.TheVariants.{Judged, Failed, NoProfile, Busy, NoEntry}
 use Rattle.justification.specs.Justified.{Justified}
-use Rattle.path_session.specs.Sitting.{Sitting}
+use Rattle.path_session.specs.Sessions.{Sitting}
 use Rattle.trace_report.specs.Output.{line}
 use Rattle.trace_script.specs.AnswerText.{answered_text}
 

@@ -9,7 +9,7 @@
 //! The definitions to believe are those in `specs/`, for contracts of private functions alone.
 #![tactic(auto)]
 
-mod answering;
+mod answers;
 mod desk;
 mod fault;
 mod publisher;

@@ -2,7 +2,7 @@
 ghost use Rattle.std.specs.Prelude.{◌≡◌, IfOk};
 ghost use Rattle.mediating_server.specs.Answers.{TellsRightly};
 
-use crate::answering::{numbered, open_line};
+use crate::answers::{numbered, open_line};
 use crate::desk::Desk;
 use crate::publisher::PROFILE;
 use crate::request::{Request, parse};

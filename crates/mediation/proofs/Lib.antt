@@ -1,5 +1,6 @@
 pub mod Asked
 pub mod ToldLaws
-pub mod Telling
+pub mod RecordVerdicts
 pub mod DeedLaws
-pub mod LinkJudging
+pub mod LinkJudgments
+pub mod MapSteps

@@ -1,13 +1,13 @@
 -- What answers represent, with the name that was judged.
 use Rattle.std.specs.Prelude.{ℕ, List, []}
-use Rattle.rule_judge.specs.declared.linking.LinkVerdict.TheVariants.{Fine}
+use Rattle.rule_judge.specs.declared.links.LinkVerdict.TheVariants.{Fine}
 use Rattle.mediation.specs.declared.answer.Answer.{Answer}
 use Rattle.mediation.specs.declared.answer.Answer.TheVariants.{Judged, Failed, NoProfile}
 use Rattle.mediation.specs.declared.answer.LinkAnswer.{LinkAnswer}
 use Rattle.mediation.specs.declared.answer.LinkAnswer.TheVariants as link
-use Rattle.mediation.specs.Opening.{Answered, judged, failed, no_profile}
-use Rattle.mediation.specs.Linking as linking
-use Rattle.mediation.specs.Linking.{LinkAnswered}
+use Rattle.mediation.specs.Opens.{Answered, judged, failed, no_profile}
+use Rattle.mediation.specs.Links as linking
+use Rattle.mediation.specs.Links.{LinkAnswered}
 
 abbrev pub answered : List ℕ → Answer → Answered
 answered name (Judged verdict node tree policy) = judged (record { name = name; node = node; verdict = verdict }) tree policy
@@ -34,3 +34,10 @@ name_linked (linking.made j tree policy) = j.name
 name_linked (linking.not_allowed j tree policy) = j.name
 name_linked (linking.failed errno tree) = []
 name_linked (linking.no_profile policy) = []
+
+-- what holds unless a link was made
+abbrev pub UnlessMade : LinkAnswer → Type 0 → Type 0
+UnlessMade (link.Linked node tree policy) holds = Unit {0}
+UnlessMade (link.NotAllowed verdict node tree policy) holds = holds
+UnlessMade (link.Failed errno tree) holds = holds
+UnlessMade (link.NoProfile policy) holds = holds

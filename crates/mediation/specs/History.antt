@@ -5,13 +5,16 @@ use Rattle.directory_tree.specs.declared.change.Change.{Change}
 use Rattle.directory_tree.specs.declared.change.Change.TheVariants as tree
 use Rattle.directory_tree.specs.Plain.{Plain, new_plain, changed, tree_of}
 use Rattle.mediation.specs.Deeds.{Deed, policy_after}
-use Rattle.mediation.specs.Linking.{LinkAnswered, made, not_allowed, failed, no_profile, link_answered}
-use Rattle.mediation.specs.Opening.{Answered, answered_by}
+use Rattle.mediation.specs.Links.{LinkAnswered, made, not_allowed, failed, no_profile, link_answered}
+use Rattle.mediation.specs.Opens.{Answered, answered_by}
 
 -- accepted changes of the tree, with its capacity, and changes of the policy
 pub record History : Type 0 where
   pub tree : Plain
   pub deeds : List Deed
+
+abbrev pub history_of : Plain → List Deed → History
+history_of tree deeds = record { tree = tree; deeds = deeds }
 
 -- nothing was done yet
 abbrev pub new_history : ℕ → History

@@ -2,10 +2,10 @@ pub mod Told
 pub mod Judge
 pub mod Profiles
 pub mod Deeds
-pub mod Opening
-pub mod Linking
+pub mod Opens
+pub mod Links
 pub mod History
 pub mod Answers
-pub mod Judging
+pub mod Judgments
 pub mod inner
 pub mod PolicyChanges

@@ -2,12 +2,12 @@
 ghost use Rattle.std.specs.Prelude.{◌+◌, ◌≡◌, ◌^◌, ◌<◌, [], ℕ, List, IfOk, IfErr, OnOk, OnErr, IsOk};
 ghost use Rattle.glob_automaton.specs.Automata.{most_sets};
 ghost use Rattle.glob_automaton.specs.Sets.{AreMoreThan};
-ghost use Rattle.matcher.specs.Making.{IsMakeFault};
+ghost use Rattle.matcher.specs.MakeFaults.{IsMakeFault};
 ghost use Rattle.mediation.specs.Answers.{answered, name_opened, link_answered, name_linked};
 ghost use Rattle.mediation.specs.Deeds.{published_rules, removed};
 ghost use Rattle.mediation.specs.History.{History, MayChangePolicy, with_change, with_deed, tree_version, policy_version, open_answer};
 ghost use Rattle.mediation.specs.History.{link_answer, after_link};
-ghost use Rattle.mediation.specs.Linking.{IsMade};
+ghost use Rattle.mediation.specs.Links.{IsMade};
 ghost use Rattle.directory_tree.specs.Plain.{outcome, Refused};
 ghost use Rattle.rule_profile.specs.Profile.{profile_value};
 

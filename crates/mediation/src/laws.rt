@@ -3,7 +3,7 @@ ghost use Rattle.std.specs.Prelude.{◌≡◌, ℕ, List};
 ghost use Rattle.names.specs.Records.{IsTold};
 ghost use Rattle.names.specs.Bytes.{are_bytes};
 ghost use Rattle.names.specs.declared.record.Record.{Record};
-ghost use Rattle.matcher.specs.Telling.{TellsLeastHits};
+ghost use Rattle.matcher.specs.TableVerdicts.{TellsLeastHits};
 ghost use Rattle.mediation.specs.Judge.{by_rules, by_table, verdict_by};
 ghost use Rattle.mediation.specs.Told.{told};
 ghost use Rattle.names.specs.declared.permissions.Perms.{Perms};

@@ -1,12 +1,12 @@
-//! What published profiles say about names. No memory is taken.
+//! What published profiles say about names. Nothing is allocated.
 ghost use Rattle.std.specs.Prelude.{◌≡◌, Some};
 ghost use Rattle.names.specs.Records.{IsTold};
 ghost use Rattle.mediation.specs.Judge.{verdict_by};
-ghost use Rattle.mediation.specs.Linking.{allowed_by};
+ghost use Rattle.mediation.specs.Links.{allowed_by};
 ghost use Rattle.mediation.specs.Profiles.{judge_of};
-ghost use Rattle.mediation.specs.inner.Telling.{Tells};
+ghost use Rattle.mediation.specs.inner.RecordVerdicts.{Tells};
 ghost use Rattle.names.specs.Permissions.{only};
-ghost use Rattle.rule_judge.specs.Linking.{is_allowed};
+ghost use Rattle.rule_judge.specs.Links.{is_allowed};
 ghost use Rattle.names.specs.declared.verdict.Verdict.{Verdict};
 ghost use Rattle.tables.specs.Tables.{record_after};
 
@@ -15,8 +15,8 @@ use matcher::{AnyProfile, record_of_name, tables_of_rules_tell_their_verdicts};
 use names::{Permission, Perms, Record, Verdict, permissions_are_numbered, told};
 use table_verifier::{LookUps, Steps, VerifiedTable};
 
-/// A profile's verdict on a name (apparmor.d(5), "Rule Qualifiers"): by its rules if it was compiled, else by its table. No
-/// memory is taken.
+/// A profile's verdict on a name (apparmor.d(5), "Rule Qualifiers"): by its rules if it was compiled, else by its table. Nothing
+/// is allocated.
 pub fn judge_name(profile: &AnyProfile, name: &[u8], ask: Perms) -> Verdict
     ensures { result ≡ verdict_by (judge_of profile.now) name.now ask }
 {

@@ -1,13 +1,14 @@
 //! Opens and links judged by a compiled profile, and by ones that were loaded from images of the same rules.
 use matcher::{AnyProfile, CompiledProfile, LoadedProfile, chained_table_of, table_of};
 use mediation::{judge_file, judge_names, told_is_the_one_verdict};
-use names::{Errno, Path, Perms};
+use names::{Errno, Perms};
 use path_walk::{Change, LinkBytes, PlainTree, Scratch, WalkFault};
 use rule_text::{LinkVerdict, Profile, Verdict, read};
 use std::alloc::Global;
 use std::process::Abort;
 use std::test::Fail;
 use table_image::{to_bytes, to_bytes_v1};
+use test_parts::path;
 
 fn rules(alloc: Global) -> Result<Profile, Fail> {
     Ok(read(
@@ -54,10 +55,6 @@ fn tree(alloc: Global) -> Result<PlainTree, Fail> {
         .ok()
         .ok_or("symlink")?;
     Ok(tree)
-}
-
-fn path(text: &[u8]) -> Result<Path<'_>, Fail> {
-    Ok(Path::check(text).ok().ok_or("a path")?)
 }
 
 // The verdict on what a path leads to, and its name.

@@ -1,13 +1,14 @@
 //! Answers to opens that are justified, and answers that aren't, of each kind.
 use justification::{Answer, justify};
 use matcher::{AnyProfile, CompiledProfile, PolicyChange};
-use names::{Errno, Path, Perms};
+use names::{Errno, Perms};
 use path_walk::Change;
 use rule_text::{Verdict, read};
 use std::alloc::Global;
 use std::process::Abort;
 use std::sync::Arc;
 use std::test::Fail;
+use test_parts::path;
 
 // An answer to an open, and whether it is justified.
 #[derive(Clone, Copy)]
@@ -17,10 +18,6 @@ struct Row<'a> {
     ask: &'a [u8],
     answer: Answer,
     holds: bool,
-}
-
-fn path(text: &[u8]) -> Result<Path<'_>, Fail> {
-    Ok(Path::check(text).ok().ok_or("a path")?)
 }
 
 fn name(alloc: Global, bytes: &[u8]) -> Result<Vec<u8>, Fail> {

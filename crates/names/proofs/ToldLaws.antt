@@ -11,7 +11,7 @@ use Rattle.names.specs.declared.record.Record.{Record}
 use Rattle.names.proofs.LeastNumbers.{least_none}
 use Rattle.names.specs.Least.{hits_of, IsLeastOrNone}
 use Rattle.names.specs.Grounds.{IsVerdictOn}
-use Rattle.names.specs.declared.judging.Grounds.{Grounds}
+use Rattle.names.specs.declared.judgment.Grounds.{Grounds}
 use Rattle.names.specs.Records.{IsTold, ToldDenied, ToldMissing, NothingToldDenied}
 use Rattle.names.proofs.PermsLaws.{has-set_of, some_member}
 use Rattle.names.proofs.PermsTests.{same_perms}

@@ -3,7 +3,7 @@ use Rattle.std.specs.Prelude.{◌≡◌, ◌≢◌, false}
 use Rattle.names.specs.declared.permissions.Permission.{Permission}
 use Rattle.names.specs.declared.permissions.Perms.{Perms}
 use Rattle.names.specs.Permissions.{has}
-use Rattle.names.specs.declared.judging.Grounds.{Grounds}
+use Rattle.names.specs.declared.judgment.Grounds.{Grounds}
 use Rattle.names.specs.declared.verdict.Verdict.{Verdict}
 use Rattle.names.specs.declared.verdict.Verdict.TheVariants.{Denied, NoRule, Allowed}
 

@@ -1,5 +1,7 @@
+pub mod Ascii
 pub mod Permissions
 pub mod Errors
+pub mod Limits
 pub mod Paths
 pub mod Bytes
 pub mod Least

@@ -2,12 +2,14 @@
 use Rattle.std.specs.Prelude.{◌≡◌, ℕ, ◌<◌, ◌≤◌, ◌≢◌, ◌-◌, Bool, List, [], ◌∷◌, ◌++◌, length, filter, nat_lt, not, ◌==◌, slice_index, All}
 use Rattle.std.specs.Prelude.{Option, Some, None, if◌then◌else◌}
 use Rattle.std.specs.List.{list_any, slice_split}
+use Rattle.names.specs.Ascii as ascii
+use Rattle.names.specs.Limits.{longest_component, longest_path}
 use Rattle.names.specs.declared.errors.Errno.{Errno}
 use Rattle.names.specs.declared.errors.Errno.TheVariants.{ENOENT, EINVAL, ENAMETOOLONG}
 
 -- the byte `/`
 abbrev pub is_slash : ℕ → Bool
-is_slash b = b == 47
+is_slash b = b == ascii.slash
 
 abbrev pub is_empty : List ℕ → Bool
 is_empty bytes = length bytes == 0
@@ -20,7 +22,7 @@ ends_with_slash bytes = is_slash (slice_index bytes (length bytes - 1))
 
 -- `.`, where the text ends with a slash
 abbrev pub closing_component : List ℕ → List (List ℕ)
-closing_component bytes = if ends_with_slash bytes then (46 ∷ []) ∷ [] else []
+closing_component bytes = if ends_with_slash bytes then (ascii.dot ∷ []) ∷ [] else []
 
 -- the non-empty parts between slashes: slashes that follow one another count as one, and those at the end for nothing
 abbrev pub filled_parts : List ℕ → List (List ℕ)
@@ -32,7 +34,7 @@ components bytes = filled_parts bytes ++ closing_component bytes
 
 -- some component is longer than limits.h's NAME_MAX
 abbrev pub has_long_component : List ℕ → Bool
-has_long_component bytes = list_any (λ component. nat_lt 255 (length component)) (components bytes)
+has_long_component bytes = list_any (λ component. nat_lt longest_component (length component)) (components bytes)
 
 -- why the text is no path: the first of these tests that holds
 abbrev pub path_fault : List ℕ → Option Errno
@@ -41,7 +43,7 @@ path_fault bytes =
     else if not (begins_with_slash bytes) then Some EINVAL
     else if list_any (λ b. b == 0) bytes then Some EINVAL
     -- limits.h's PATH_MAX counts the byte 0 that closes a path in C
-    else if nat_lt 4095 (length bytes) then Some ENAMETOOLONG
+    else if nat_lt longest_path (length bytes) then Some ENAMETOOLONG
     else if has_long_component bytes then Some ENAMETOOLONG
     else None
 
@@ -56,5 +58,5 @@ IsPart part = (0 < length part) × All (λ b. b ≢ 47) part
 -- what a directory can have an entry of, or `.`
 pub record IsPathComponent (component : List ℕ) : Type 0 where
   pub part : IsPart component
-  pub short : length component ≤ 255
+  pub short : length component ≤ longest_component
   pub bytes : All (λ b. b ≢ 0) component

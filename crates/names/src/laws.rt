@@ -9,7 +9,7 @@ ghost use Rattle.names.specs.Grounds.{IsVerdictOn};
 ghost use Rattle.names.specs.Least.{hits_of, record_of};
 ghost use Rattle.names.specs.Records.{IsTold};
 ghost use Rattle.names.specs.contracts.record.RecordPartialEq.TheImpl as record_impl;
-ghost use Rattle.names.specs.declared.judging.Grounds.{Grounds};
+ghost use Rattle.names.specs.declared.judgment.Grounds.{Grounds};
 ghost use Rattle.names.specs.declared.record.LeastHits.{LeastHits};
 ghost use Rattle.names.specs.declared.record.Record.{Record};
 ghost use Rattle.names.specs.declared.verdict.Verdict.{Verdict};

@@ -7,26 +7,25 @@
 #![tactic(auto)]
 
 mod errors;
-mod judging;
+mod judgment;
 mod kind;
 mod laws;
+mod limits;
 mod paths;
 mod permissions;
 mod record;
 mod verdict;
 
 pub use errors::{Errno, NoMemory};
-pub use judging::{Grounds, grounds_of, told};
+pub use judgment::{Grounds, grounds_of, told};
 pub use kind::RuleKind;
 pub use laws::{
     components_are_parts, components_of_joined, components_of_paths, equal_records_are_one,
     grounds_have_one_verdict, letters_read_again, one_letter_each, paths_are_names,
     permissions_are_numbered, records_are_their_hits, records_tell_one_verdict, who_writes_appends,
 };
-pub use paths::{
-    Components, LONGEST_COMPONENT, LONGEST_PATH, Path, has_long_component, split_at_slash,
-    split_component,
-};
+pub use limits::{LONGEST_COMPONENT, LONGEST_LINK_TEXT, LONGEST_PATH, MOST_CHANGES};
+pub use paths::{Components, Path, has_long_component, split_at_slash, split_component};
 pub use permissions::{Permission, Perms};
 pub use record::{LeastHits, Record};
 pub use verdict::Verdict;

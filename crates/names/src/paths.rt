@@ -1,17 +1,13 @@
 ghost use Rattle.std.specs.Prelude.{◌≡◌, ◌<◌, ◌≤◌, ◌-◌, ◌∷◌, IfOk, IfErr, IfSome, IfNone, None, Some, drop, length, true};
 ghost use Rattle.std.specs.Iterator.{YieldsFirstBy, item_count};
 ghost use Rattle.std.specs.List.{prefix_len, position_or_len, before_first};
+ghost use Rattle.names.specs.Limits.{longest_path};
 ghost use Rattle.names.specs.Paths.{components, path_fault, begins_with_slash, has_long_component, is_slash};
 
 use crate::Errno;
+use crate::limits::{LONGEST_COMPONENT, LONGEST_PATH};
 use std::iter::FusedIterator;
 use std::marker::Model;
-
-/// The longest path, in bytes: limits.h's PATH_MAX without the byte 0 that closes a path in C.
-pub const LONGEST_PATH: usize = 4095;
-
-/// The longest component of a path, in bytes: limits.h's NAME_MAX.
-pub const LONGEST_COMPONENT: usize = 255;
 
 /// A path as calls take it (path_resolution(7)). It begins with a slash, has no byte 0, and is
 /// nowhere too long. Its bytes need not be UTF-8.
@@ -34,7 +30,7 @@ impl<'a> Model for Path<'a> {
 impl<'a> Path<'a> {
     /// The bytes as a path, or why they aren't one, by the first of these tests that fails: they
     /// are empty (ENOENT), begin with no slash or have a byte 0 (EINVAL), or are too long as a
-    /// whole or in some component (ENAMETOOLONG). No memory is taken.
+    /// whole or in some component (ENAMETOOLONG). Nothing is allocated.
     pub fn check(bytes: &'a [u8]) -> Result<Path<'a>, Errno>
         ensures path { IfOk result (λ path. (path ≡ bytes.now) × (path_fault path ≡ None)) }
         ensures fault { IfErr result (λ fault. path_fault bytes.now ≡ Some fault) }
@@ -65,10 +61,10 @@ impl<'a> Path<'a> {
         self.bytes
     }
 
-    /// What a walk of the path takes, one component after the other. No memory is taken.
+    /// What a walk of the path takes, one component after the other. Nothing is allocated.
     pub fn components(&self) -> Components<'a>
         ensures components { result ≡ components self.now }
-        ensures few { length result ≤ 4095 }
+        ensures few { length result ≤ longest_path }
         ensures checked { path_fault self.now ≡ None }
     {
         Components { left: self.bytes }
@@ -93,7 +89,7 @@ impl<'a> Model for Components<'a> {
 }
 
 impl<'a> Components<'a> {
-    /// The components of any text, such as the text of a symbolic link. No memory is taken.
+    /// The components of any text, such as the text of a symbolic link. Nothing is allocated.
     pub fn of(text: &'a [u8]) -> Components<'a>
         ensures { result ≡ components text.now }
     {
@@ -118,7 +114,7 @@ impl<'a> Iterator for Components<'a> {
 impl<'a> FusedIterator for Components<'a> {}
 
 /// The first component of any text, and the end of the text that follows it: nothing, or text that
-/// begins with a slash. Only an empty text has none. No memory is taken.
+/// begins with a slash. Only an empty text has none. Nothing is allocated.
 pub fn split_component(text: &[u8]) -> Option<(&[u8], &[u8])>
     ensures none { IfNone result (length text.now ≡ 0) }
     ensures first { IfSome result (λ cut. components text.now ≡ cut.0.now ∷ components cut.1.now) }
@@ -137,7 +133,7 @@ pub fn split_component(text: &[u8]) -> Option<(&[u8], &[u8])>
     Some((component, left))
 }
 
-/// Whether some component of the text is too long. No memory is taken.
+/// Whether some component of the text is too long. Nothing is allocated.
 pub fn has_long_component(text: &[u8]) -> bool
     ensures { result ≡ has_long_component text.now }
 {
@@ -156,7 +152,7 @@ fn skip_slashes(bytes: &[u8]) -> &[u8]
     }
 }
 
-/// The bytes before the first slash, and those from it on. No memory is taken.
+/// The bytes before the first slash, and those from it on. Nothing is allocated.
 pub fn split_at_slash(bytes: &[u8]) -> (&[u8], &[u8])
     ensures before { result.0.now ≡ before_first is_slash bytes.now }
     ensures from { result.1.now ≡ drop (position_or_len is_slash bytes.now) bytes.now }

@@ -2,13 +2,13 @@
 //! of the same files again and again, by sessions that keep verdicts and by ones that keep none ([`time_kept`]).
 #![tactic(auto)]
 
-mod keeping;
-mod opening;
+mod kept;
 mod opens;
 mod profiles;
 mod scene;
+mod threads;
 mod tree;
 
-pub use keeping::time_kept;
-pub use opening::time_opens;
+pub use kept::time_kept;
 pub use profiles::{compiled, stage, stage_removal};
+pub use threads::time_opens;

@@ -62,7 +62,7 @@ pub(crate) struct Opened {
     pub tally: Tally,
 }
 
-/// Opens the files of these paths by turns, `opens` times by each session, which has a thread of its own.
+/// Opens the files of these paths in turn, `opens` times by each session, which has a thread of its own.
 pub(crate) fn open_in_threads<R: Clock + Threads + Sync>(
     rt: &R,
     sessions: Vec<Session>,
@@ -83,7 +83,7 @@ pub(crate) fn open_in_threads<R: Clock + Threads + Sync>(
     Ok(Opened { took, tally })
 }
 
-// Opens files by turns to read them, and returns the outcome. With no path nothing is opened.
+// Opens files in turn to read them, and returns the outcome. With no path nothing is opened.
 fn open_by_turns(session: Session, paths: &[&[u8]], opens: u64) -> Tally {
     let mut session = session;
     let to_read = Perms::NONE.with(Permission::Read);

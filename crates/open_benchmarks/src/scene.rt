@@ -11,7 +11,7 @@ use std::sync::{Arc, Wait};
 /// The name that the profile is published under.
 const PROFILE: &[u8] = b"profile";
 
-/// A keeper and a publisher, with two profiles of the same rules to publish by turns.
+/// A keeper and a publisher, with two profiles of the same rules to publish in turn.
 ///
 /// It is not `Drop`: end it by [`close`](Scene::close).
 pub(crate) struct Scene {

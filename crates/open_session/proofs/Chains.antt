@@ -6,13 +6,13 @@ use Rattle.row_rule.specs.declared.cell.Cell.{Cell}
 use Rattle.row_rule.specs.declared.view.WalkerView.{WalkerView}
 use Rattle.row_rule.specs.Steps.{reading}
 use Rattle.tree_row.specs.Rows.{row_length}
-use Rattle.event_core.specs.Machine.{Policed, Session}
-use Rattle.event_core.specs.Machine.Stage.{walking}
-use Rattle.event_core.specs.Walking.{IsSound, MayDo}
-use Rattle.walk_words.specs.Words.{ReadsOn}
+use Rattle.event_machine.specs.Machine.{Policed, Session}
+use Rattle.event_machine.specs.Machine.Stage.{walking}
+use Rattle.event_machine.specs.WalkSteps.{IsSound, MayDo}
+use Rattle.open_session.specs.Words.{ReadsOn}
 use Rattle.open_session.specs.Steps.{ReadsCell, CellReads}
 
--- one reading more at the end
+-- one more reading at the end
 one_more : (capacity : ℕ) (cells : List ℕ) (count : ℕ) (a b c : Session) → CellReads capacity cells count a b →
     ReadsCell capacity cells b c → CellReads capacity cells (suc count) a c
 one_more capacity cells zero a b c is step = (c, subst (λ (s : Session). ReadsCell capacity cells s c) is step, refl)

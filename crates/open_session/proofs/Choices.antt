@@ -3,12 +3,12 @@ use Rattle.std.proofs.Common.{ℕ, List, inl, inr}
 use Rattle.std.specs.Prelude.{Ok, Err}
 use Rattle.names.specs.declared.errors.Errno.TheVariants.{EINVAL}
 use Rattle.row_rule.specs.declared.view.WalkerView.{WalkerView}
-use Rattle.mediation.specs.Judging.{reached_of}
-use Rattle.event_core.specs.Machine as machine
-use Rattle.event_core.specs.Walking.{MayDo}
+use Rattle.mediation.specs.Judgments.{reached_of}
+use Rattle.event_machine.specs.Machine as machine
+use Rattle.event_machine.specs.WalkSteps.{MayDo}
 use Rattle.open_session.specs.declared.walk.Next.{Next}
 use Rattle.open_session.specs.declared.walk.Next.TheVariants as next
-use Rattle.open_session.specs.inner.Standing.{IsRightNext, next_of}
+use Rattle.open_session.specs.inner.StageData.{IsRightNext, next_of}
 
 pub may_do : (capacity : ℕ) (room : List ℕ) (call : machine.Call) (w : WalkerView) (n : Next) → IsRightNext capacity room call w n →
     MayDo capacity call w (next_of n)

@@ -1,8 +1,11 @@
 pub mod Chains
 pub mod Choices
 pub mod Refusals
-pub mod Counting
+pub mod WordCounts
 pub mod Readings
 pub mod Tellings
 pub mod Stands
 pub mod Ruled
+pub mod WordsRead
+pub mod ReadingOn
+pub mod Decisions

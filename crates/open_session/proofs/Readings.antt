@@ -4,28 +4,28 @@ use Rattle.std.proofs.Common.{refl, sym, ◌∙◌, subst, ap, arith, length-app
 use Rattle.std.specs.Prelude.{Result, Err, IsSome, slice_get}
 use Rattle.std.proofs.lemmas.Option.{slice_get-get_or}
 use Rattle.names.specs.Paths.{path_fault}
-use Rattle.mediation.specs.Opening.{reached, can_be_asked}
+use Rattle.mediation.specs.Opens.{reached, can_be_asked}
 use Rattle.row_rule.specs.declared.cell.Cell.{Cell}
 use Rattle.row_rule.specs.declared.view.WalkerView.{WalkerView}
 use Rattle.tree_row.specs.Rows.{row_length}
-use Rattle.event_core.specs.Machine as machine
-use Rattle.event_core.specs.Walking.{MayDo}
-use Rattle.event_core.specs.declared.event.StepFault.{StepFault}
-use Rattle.event_core.specs.declared.event.StepFault.TheVariants.{NoMemory}
-use Rattle.walk_words.specs.declared.outcome.Outcome.{Outcome}
-use Rattle.walk_words.specs.declared.outcome.Lack.{Lack}
-use Rattle.walk_words.specs.Words.{ReadsOn}
-use Rattle.walk_words.specs.Outcomes.{Decides, IsLack}
+use Rattle.event_machine.specs.Machine as machine
+use Rattle.event_machine.specs.WalkSteps.{MayDo}
+use Rattle.event_machine.specs.declared.event.StepFault.{StepFault}
+use Rattle.event_machine.specs.declared.event.StepFault.TheVariants.{NoMemory}
+use Rattle.open_session.specs.declared.outcome.Outcome.{Outcome}
+use Rattle.open_session.specs.declared.outcome.Lack.{Lack}
+use Rattle.open_session.specs.Words.{ReadsOn}
+use Rattle.open_session.specs.Outcomes.{Decides, IsLack}
 use Rattle.open_session.specs.declared.call.Policed.{Policed}
 use Rattle.open_session.specs.declared.walk.Next.{Next}
 use Rattle.open_session.specs.declared.walk.Next.TheVariants as next
 use Rattle.open_session.specs.declared.walk.Walk.{Walk}
 use Rattle.open_session.specs.Steps.{CellReads}
-use Rattle.open_session.specs.inner.Standing.{IsRightNext, IsWalk, ReadsSome, WalkReads, call_of, policed_of, walker_of, next_of}
+use Rattle.open_session.specs.inner.StageData.{IsRightNext, IsWalk, ReadsSome, WalkReads, call_of, policed_of, walker_of, next_of}
 use Rattle.open_session.specs.inner.Ends.{next_after, counted_by}
 use Rattle.open_session.proofs.Chains.{reads_on, with_reads, standing}
 use Rattle.open_session.proofs.Choices.{may_do}
-use Rattle.open_session.proofs.Counting.{right_next, counts_ok, counts_all, counts_err, counts_memory}
+use Rattle.open_session.proofs.WordCounts.{right_next, counts_ok, counts_all, counts_err, counts_memory}
 
 -- What the words that a walk has read decide, beginning with the old ones.
 pub record Comes (capacity : ℕ) (cells room : List ℕ) (w : Walk) (old : List Cell) (most : ℕ) (end : Result Outcome Lack) : Type 0 where
@@ -125,7 +125,7 @@ reads_some capacity cells room room' old new place word further n more end count
           (subst (λ (m : Next). OnErr (counted_by n end) (IsSome (next_of m))) (sym comes.next_is) (counts_memory n end));
     }
 
--- the readings of a walk that read the word that it wanted, and then more
+-- the readings of a walk that read the word that it needed, and then more
 pub reads_after : (capacity : ℕ) (cells room room' : List ℕ) (old : Walk) (place word further n : ℕ) (words words' : ℕ × List Cell)
     (path : List ℕ) (end : Result Outcome Lack) (chosen_next : Next)
     (count : Result ℕ StepFault)

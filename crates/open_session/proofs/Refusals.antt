@@ -2,8 +2,8 @@
 use Rattle.std.proofs.Common.{◌≡◌, ℕ, List, Option, Some, None, OnErr, refl}
 use Rattle.std.specs.Prelude.{Result, Ok, Err, IsSome}
 use Rattle.row_rule.specs.declared.view.WalkerView.{WalkerView}
-use Rattle.event_core.specs.Machine.{Policed}
-use Rattle.event_core.specs.Machine.Stage.{walking}
+use Rattle.event_machine.specs.Machine.{Policed}
+use Rattle.event_machine.specs.Machine.Stage.{walking}
 use Rattle.open_session.specs.Steps.{ReadsCell, MayStep}
 use Rattle.open_session.specs.Turns.{IsReading}
 

@@ -8,10 +8,10 @@ use Rattle.row_rule.specs.Steps.{ending}
 use Rattle.row_rule.proofs.Rule.{even_encodes}
 use Rattle.tree_row.specs.Rows.{row_length}
 use Rattle.row_plan.specs.Changes.{EncodesChanges}
-use Rattle.event_core.specs.Machine.{Stage, Machine}
-use Rattle.event_core.specs.Machine.Stage.{resting, begun, unpublished, policed, walking, checked}
-use Rattle.event_core.specs.Rule.{view_of, KeepsRule}
-use Rattle.event_core.proofs.Ruled.{fits_at}
+use Rattle.event_machine.specs.Machine.{Stage, Machine}
+use Rattle.event_machine.specs.Machine.Stage.{resting, begun, unpublished, policed, walking, checked}
+use Rattle.event_machine.specs.Rule.{view_of, KeepsRule}
+use Rattle.event_machine.proofs.Ruled.{fits_at}
 use Rattle.open_session.specs.Seen.{SawTree, SeesTree}
 
 -- what was read under an even count that is unchanged agrees with the row as it is

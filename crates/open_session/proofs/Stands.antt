@@ -5,15 +5,15 @@ use Rattle.row_rule.specs.declared.view.KeeperView.{KeeperView}
 use Rattle.row_rule.specs.declared.view.WalkerView.{WalkerView}
 use Rattle.row_rule.specs.Row.{count_of}
 use Rattle.row_rule.specs.Steps.{newcomer, beginning}
-use Rattle.event_core.specs.Machine as machine
-use Rattle.event_core.specs.Machine.Stage.{walking}
-use Rattle.event_core.specs.Walking.{MayDo}
+use Rattle.event_machine.specs.Machine as machine
+use Rattle.event_machine.specs.Machine.Stage.{walking}
+use Rattle.event_machine.specs.WalkSteps.{MayDo}
 use Rattle.open_session.specs.declared.call.Policed.{Policed}
 use Rattle.open_session.specs.declared.walk.Walk.{Walk}
 use Rattle.open_session.specs.declared.stage.Stage.{Stage}
 use Rattle.open_session.specs.declared.stage.Stage.TheVariants as at
 use Rattle.open_session.specs.Steps.{ReadsCount, CellReads}
-use Rattle.open_session.specs.inner.Standing.{IsWalk, IsStanding, call_of, policed_of, walker_of, walking_of, stage_of, next_of}
+use Rattle.open_session.specs.inner.StageData.{IsWalk, IsStanding, call_of, policed_of, walker_of, walking_of, stage_of, next_of}
 use Rattle.open_session.proofs.Choices.{may_do}
 
 pub if_ok_map : {A E : Type 0} {P Q : A → Type 0} (r : Result A E) → IfOk r P → ((x : A) → P x → Q x) → IfOk r Q

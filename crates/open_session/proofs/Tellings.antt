@@ -3,16 +3,16 @@ use Rattle.std.proofs.Common.{◌≡◌, ◌⊎◌, inl, inr, ℕ, ◌%◌, List
 use Rattle.directory_tree.specs.declared.change.Change.{Change}
 use Rattle.row_rule.specs.declared.view.WalkerView.{WalkerView}
 use Rattle.row_rule.specs.Steps.{ending}
-use Rattle.event_core.specs.Machine as machine
-use Rattle.event_core.specs.Walking.{MayAnswer}
+use Rattle.event_machine.specs.Machine as machine
+use Rattle.event_machine.specs.WalkSteps.{MayAnswer}
 use Rattle.open_session.specs.declared.stage.Stage.{Stage}
 use Rattle.open_session.specs.declared.stage.Stage.TheVariants as at
-use Rattle.open_session.specs.declared.telling.Told.{Told}
+use Rattle.open_session.specs.declared.answers.Told.{Told}
 use Rattle.open_session.specs.declared.walk.Checked.{Checked}
 use Rattle.open_session.specs.declared.walk.Next.{Next}
 use Rattle.open_session.specs.declared.walk.Next.TheVariants as next
 use Rattle.open_session.specs.Seen.{SawTree}
-use Rattle.open_session.specs.inner.Standing.{IsRightNext, IsEnded, IsStanding, IsTold, stage_of, next_of}
+use Rattle.open_session.specs.inner.StageData.{IsRightNext, IsEnded, IsStanding, IsTold, stage_of, next_of}
 
 -- a walk that wasn't disturbed reached a file or an error
 pub still_decides : (capacity : ℕ) (room : List ℕ) (call : machine.Call) (w : WalkerView) (last : ℕ) (seen : List Change) (n : Next)

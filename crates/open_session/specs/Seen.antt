@@ -6,9 +6,9 @@ use Rattle.row_rule.specs.declared.view.WalkerView.{WalkerView}
 use Rattle.row_rule.specs.Row.{Agrees, count_of}
 use Rattle.row_rule.specs.Steps.{ending}
 use Rattle.tree_row.specs.Rows.{Encodes}
-use Rattle.event_core.specs.Machine.{Stage}
-use Rattle.event_core.specs.Machine.Stage.{resting, begun, unpublished, policed, walking, checked}
-use Rattle.event_core.specs.Walking.{IsStill}
+use Rattle.event_machine.specs.Machine.{Stage}
+use Rattle.event_machine.specs.Machine.Stage.{resting, begun, unpublished, policed, walking, checked}
+use Rattle.event_machine.specs.WalkSteps.{IsStill}
 
 -- if its counts are one even number, what it read agrees with some row that encodes a sound tree
 abbrev pub SawTree : ℕ → WalkerView → Type 0

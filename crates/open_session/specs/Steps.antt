@@ -6,10 +6,10 @@ use Rattle.row_rule.specs.declared.view.KeeperView.{KeeperView}
 use Rattle.row_rule.specs.declared.view.WalkerView.{WalkerView}
 use Rattle.row_rule.specs.Row.{count_of}
 use Rattle.row_rule.specs.Steps.{newcomer, beginning, reading, ending}
-use Rattle.event_core.specs.Machine.{Call, Policed, Stage, Session}
-use Rattle.event_core.specs.Machine.Stage.{resting, begun, policed, walking, checked}
-use Rattle.event_core.specs.Takes.{after_policy}
-use Rattle.event_core.specs.Walking.{MayDo, MayAnswer}
+use Rattle.event_machine.specs.Machine.{Call, Policed, Stage, Session}
+use Rattle.event_machine.specs.Machine.Stage.{resting, begun, policed, walking, checked}
+use Rattle.event_machine.specs.Takes.{after_policy}
+use Rattle.event_machine.specs.WalkSteps.{MayDo, MayAnswer}
 
 -- the call goes on, or it is answered
 abbrev pub going_on : Session → Stage → Session

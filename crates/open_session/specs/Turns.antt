@@ -2,8 +2,8 @@
 use Rattle.std.specs.Prelude.{◌≡◌, ◌⊎◌, ℕ, List, Some, None, IsSome}
 use Rattle.mediation.specs.Deeds.{Deed, policy_after}
 use Rattle.row_rule.specs.declared.view.WalkerView.{WalkerView}
-use Rattle.event_core.specs.Machine.{Call, Policed, Stage}
-use Rattle.event_core.specs.Machine.Stage.{resting, begun, unpublished, policed, walking, checked}
+use Rattle.event_machine.specs.Machine.{Call, Policed, Stage}
+use Rattle.event_machine.specs.Machine.Stage.{resting, begun, unpublished, policed, walking, checked}
 
 -- it may begin a call
 abbrev pub IsResting : Stage → Type 0

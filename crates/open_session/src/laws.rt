@@ -1,8 +1,8 @@
 //! Laws of sessions in a machine.
 ghost use Rattle.std.specs.Prelude.{◌≡◌, ℕ, length};
 ghost use Rattle.tree_row.specs.Rows.{row_length};
-ghost use Rattle.event_core.specs.Machine.{Machine};
-ghost use Rattle.event_core.specs.Rule.{KeepsRule};
+ghost use Rattle.event_machine.specs.Machine.{Machine};
+ghost use Rattle.event_machine.specs.Rule.{KeepsRule};
 ghost use Rattle.open_session.specs.Seen.{SeesTree};
 
 /// The rule of the row, as a machine keeps it, gives what the steps of its sessions require: the row is as long as its capacity

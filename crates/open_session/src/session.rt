@@ -8,7 +8,7 @@ use std::marker::Model;
 /// Its model is a pair: the capacity of the row that it reads, and the session of the machine over events, which is the name that
 /// its last answer judged and the stage of its call.
 #[derive(Drop)]
-pub struct Session {
+pub struct SteppedSession {
     pub(crate) capacity: usize,
     // The name is at the front.
     pub(crate) name: Box<[u8; NAME_ROOM]>,
@@ -18,15 +18,16 @@ pub struct Session {
     pub(crate) stage: Stage,
 }
 
-impl Model for Session {
+impl Model for SteppedSession {
+    ghost use Rattle.names.specs.Limits.{longest_path};
     ghost use Rattle.std.specs.Prelude.{ℕ, ◌≤◌, take};
-    ghost use Rattle.event_core.specs.Machine as machine;
+    ghost use Rattle.event_machine.specs.Machine as machine;
 
     ghost Value = { ℕ × machine.Session };
 
-    ghost use Rattle.open_session.specs.inner.Standing.{stage_of, IsStanding};
+    ghost use Rattle.open_session.specs.inner.StageData.{stage_of, IsStanding};
 
     ghost view = { λ s. (s.capacity, record { name = take s.name_length s.name.value; stage = stage_of s.stage }) };
 
-    ghost invariant = { λ s. (s.capacity ≤ 16384) × (s.name_length ≤ 4095) × IsStanding s.capacity s.room.value s.stage };
+    ghost invariant = { λ s. (s.capacity ≤ 16384) × (s.name_length ≤ longest_path) × IsStanding s.capacity s.room.value s.stage };
 }

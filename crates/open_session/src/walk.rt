@@ -1,9 +1,9 @@
 //! A walk that reads the row a word at a time.
+use crate::WalkWords;
 use crate::call::Policed;
 use mediation::Reached;
 use names::Errno;
 use row_keeper::History;
-use walk_words::WalkWords;
 
 /// What a walk does next, or how it ended. Once it has ended, it reads the count again.
 #[derive(Clone, Copy)]

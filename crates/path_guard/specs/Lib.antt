@@ -1,1 +1,1 @@
-pub mod Publishing
+pub mod Publication

@@ -2,7 +2,7 @@
 ghost use Rattle.std.specs.Prelude.{◌≡◌, ◌^◌, ◌<◌, [], ◌++◌, IfOk, IfErr, length};
 ghost use Rattle.mediation.specs.Deeds.{published, removed};
 ghost use Rattle.mediation.specs.PolicyChanges.{judge_shared};
-ghost use Rattle.path_guard.specs.Publishing.{IsPublished, IsUnpublished};
+ghost use Rattle.path_guard.specs.Publication.{IsPublished, IsUnpublished};
 ghost use Rattle.row_rule.specs.Steps.{newcomer};
 
 use crate::fault::SessionFault;
@@ -10,16 +10,13 @@ use dentry_cache::Keeper;
 use directory_tree::Change;
 use guarded_row::{GuardedRow, Row};
 use matcher::AnyProfile;
-use names::Errno;
+use names::{Errno, MOST_CHANGES};
 use path_session::Session;
 use profile_registry::{PolicyReader, Publisher};
 use std::alloc::Global;
 use std::sync::{Arc, Mutex, MutexGuard, Wait};
 
-/// The most changes of the policy.
-const MOST_CHANGES: u64 = (1 << 60) - 1;
-
-/// A keeper and a publisher, each behind a lock, for the sessions of many threads. `M` names the keeper's row.
+/// A keeper and a publisher, each protected by a lock, for the sessions of many threads. `M` names the keeper's row.
 ///
 /// It is not `Drop`: end it by [`close`](Guard::close).
 pub struct Guard<M: Row> {
@@ -72,7 +69,7 @@ impl<M: Row> Guard<M> {
 
     /// Publishes a profile under a name, in place of the one that is there, and returns the policy's new version. It waits for
     /// readers that are inside. `EOVERFLOW` where no more changes can be counted. At `ENOMEM` the published policy is as before;
-    /// where memory was refused to the publication, the change stays staged, and the next publication takes it along.
+    /// where memory was refused to the publication, the change stays staged, and the next publication includes it.
     pub fn replace(
         &self,
         rt: &impl Wait,

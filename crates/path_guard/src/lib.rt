@@ -1,5 +1,5 @@
-//! A tree and its policy behind one guard, for threads: each thread opens by a session of its own, and waits only where it has
-//! met one change after another.
+//! A tree and its policy in one guard, for threads: each thread opens by a session of its own, and waits only where it has met
+//! one change after another.
 //!
 //! [`Guard::open`] answers at once where it can, and else by the keeper's lock; [`Guard::link`] makes hard links; [`Guard::change`]
 //! changes the tree, and [`Guard::replace`] and [`Guard::remove`] the policy. A [`Session`] may go to its own thread, and
@@ -10,8 +10,8 @@
 
 mod fault;
 mod guard;
-mod linking;
-mod opening;
+mod links;
+mod opens;
 
 pub use fault::SessionFault;
 pub use guard::Guard;

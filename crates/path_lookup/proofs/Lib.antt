@@ -1,7 +1,7 @@
 pub mod Joined
-pub mod Arriving
-pub mod Stepping
-pub mod Naming
+pub mod Arrivals
+pub mod WalkSteps
+pub mod NameParts
 pub mod OwnNames
 pub mod PlaceNames
 pub mod Splits

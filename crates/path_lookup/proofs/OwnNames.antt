@@ -18,7 +18,7 @@ use Rattle.directory_tree.specs.Spots.{Stands, child_of, node_at, component_at, 
 use Rattle.directory_tree.proofs.Basics.{true_is_false, none_is_some, some_inj}
 use Rattle.directory_tree.proofs.Found.{found_at}
 use Rattle.path_lookup.specs.inner.Steps.{IsDirectory, IsOwnComponent}
-use Rattle.path_lookup.proofs.Naming.{stem, stem_up}
+use Rattle.path_lookup.proofs.NameParts.{stem, stem_up}
 
 module _ (left : List ℕ) (begins : slice_index left 0 ≡ slash) (some : 0 < length left) where
   abbrev body : List ℕ

@@ -19,16 +19,16 @@ use Rattle.directory_tree.specs.Walk.{Spot, walk, resolve, max_links}
 use Rattle.directory_tree.specs.Walk.Spot.{Root, Held}
 use Rattle.directory_tree.specs.Spots.{Stands, shape_of, node_at, kind_at}
 use Rattle.path_lookup.specs.World.{World}
-use Rattle.path_lookup.specs.Walking.{IsFault}
-use Rattle.directory_tree.specs.Name.{directory_name, name_of, judged, max_name}
+use Rattle.path_lookup.specs.WalkFaults.{IsFault}
+use Rattle.directory_tree.specs.Name.{directory_name, name_of, judged, longest_path}
 use Rattle.directory_tree.specs.Apply.{Target, and_then, parent_of, directory_at}
 use Rattle.path_lookup.specs.Target.{IsSplit}
 use Rattle.directory_tree.specs.Place.{place_name, named_place}
 use Rattle.directory_tree.proofs.Basics.{ok_inj, err_is_ok}
 use Rattle.directory_tree.proofs.Depth.{Deep, deep}
-use Rattle.directory_tree.proofs.Standing.{placed_at}
-use Rattle.path_lookup.proofs.Naming.{stem, name_split, closing_directory, stem_spot}
-use Rattle.path_lookup.proofs.Arriving.{directory_stands}
+use Rattle.directory_tree.proofs.Presence.{placed_at}
+use Rattle.path_lookup.proofs.NameParts.{stem, name_split, closing_directory, stem_spot}
+use Rattle.path_lookup.proofs.Arrivals.{directory_stands}
 
 -- the two tests agree
 shape_directory : (k : NodeKind) → shape_of k ≡ kind.Directory → is_directory k ≡ true
@@ -71,7 +71,7 @@ place_behind t well s stands h component =
 
 -- what can be judged is the name itself
 pub judged_is : (name text : List ℕ) → judged name ≡ Ok text → name ≡ text
-judged_is name text h = elim (nat_lt max_name (length name)) as (λ (b : Bool). (if b then Err ENAMETOOLONG else Ok name) ≡ Ok text →
+judged_is name text h = elim (nat_lt longest_path (length name)) as (λ (b : Bool). (if b then Err ENAMETOOLONG else Ok name) ≡ Ok text →
     name ≡ text) [
       | true ↦ λ q. absurd (err_is_ok ENAMETOOLONG text q)
       | false ↦ λ q. ok_inj name text q
@@ -79,13 +79,13 @@ judged_is name text h = elim (nat_lt max_name (length name)) as (λ (b : Bool). 
 
 -- where a name is too long, a longer one is
 pub judged_more : (name more : List ℕ) (errno : Errno) → judged name ≡ Err errno → judged (name ++ more) ≡ Err errno
-judged_more name more errno h = elim (nat_lt max_name (length name)) as (λ (b : Bool). nat_lt max_name (length name) ≡ b →
+judged_more name more errno h = elim (nat_lt longest_path (length name)) as (λ (b : Bool). nat_lt longest_path (length name) ≡ b →
     (if b then Err ENAMETOOLONG else Ok name) ≡ Err errno → judged (name ++ more) ≡ Err errno) [
       | true ↦ λ long q. ap (λ (b : Bool). if b then Err ENAMETOOLONG else Ok (name ++ more)) (longer long) ∙ q
       | false ↦ λ short q. absurd (err_is_ok errno name (sym q))
     ] refl h
   where
-    longer : nat_lt max_name (length name) ≡ true → nat_lt max_name (length (name ++ more)) ≡ true
+    longer : nat_lt longest_path (length name) ≡ true → nat_lt longest_path (length (name ++ more)) ≡ true
     longer long = let whole = length-append name more in grind (arith, nat_tests)
 
 -- the directory decides, and the last component

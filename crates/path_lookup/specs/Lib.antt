@@ -1,4 +1,4 @@
 pub mod World
-pub mod Walking
+pub mod WalkFaults
 pub mod Target
 pub mod inner

@@ -4,7 +4,7 @@ use Rattle.names.specs.declared.errors.Errno.{Errno}
 use Rattle.path_lookup.specs.declared.target.EndSlash.{EndSlash}
 use Rattle.path_lookup.specs.declared.target.EndSlash.TheVariants.{Allowed, Refused}
 use Rattle.path_lookup.specs.declared.target.SplitPath.{SplitPath}
-use Rattle.names.specs.declared.paths.TheConstants.{LONGEST_COMPONENT, LONGEST_PATH}
+use Rattle.names.specs.declared.limits.TheConstants.{LONGEST_COMPONENT, LONGEST_PATH}
 use Rattle.names.specs.Paths.{filled_parts, ends_with_slash}
 use Rattle.directory_tree.specs.Components.{step_of, steps_of}
 use Rattle.directory_tree.specs.Apply.{Target, target_of}

@@ -4,7 +4,7 @@ ghost use Rattle.directory_tree.specs.Components.{Step, step_of, dot, dot_dot};
 ghost use Rattle.directory_tree.specs.Walk.{resolve, is_last};
 ghost use Rattle.directory_tree.specs.Spots.{node_at, child_of};
 ghost use Rattle.path_lookup.specs.World.{World, Narrows};
-ghost use Rattle.path_lookup.specs.Walking.{IsFault};
+ghost use Rattle.path_lookup.specs.WalkFaults.{IsFault};
 ghost use Rattle.path_lookup.specs.inner.Steps.{IsDirectory, ArrivesAt, arrival_entry};
 
 use crate::fault::WalkFault;

@@ -2,7 +2,7 @@
 ghost use Rattle.std.specs.Prelude.{◌≡◌, ◌≤◌, ℕ, List, IfOk, IfErr, IfSome, length};
 ghost use Rattle.directory_tree.specs.Walk.{walk};
 ghost use Rattle.path_lookup.specs.World.{World, Narrows};
-ghost use Rattle.path_lookup.specs.Walking.{IsFault};
+ghost use Rattle.path_lookup.specs.WalkFaults.{IsFault};
 ghost use Rattle.path_lookup.specs.inner.Steps.{IsOwnComponent, LeadsTo, IsLeftOf, IsKnown};
 
 use crate::arrival::{Arrival, arrive_down};

@@ -4,7 +4,7 @@ ghost use Rattle.directory_tree.specs.Components.{slash};
 ghost use Rattle.directory_tree.specs.Name.{judged, judged_name};
 ghost use Rattle.directory_tree.specs.Spots.{component_at, directory_of};
 ghost use Rattle.path_lookup.specs.World.{World, Narrows};
-ghost use Rattle.path_lookup.specs.Walking.{IsFault};
+ghost use Rattle.path_lookup.specs.WalkFaults.{IsFault};
 
 use crate::fault::WalkFault;
 use crate::look::Look;

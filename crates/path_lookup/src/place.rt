@@ -7,7 +7,7 @@ ghost use Rattle.directory_tree.specs.Place.{named_place};
 ghost use Rattle.directory_tree.specs.Walk.{walk};
 ghost use Rattle.directory_tree.specs.Spots.{shape_of, node_at, kind_at};
 ghost use Rattle.path_lookup.specs.World.{World, Narrows};
-ghost use Rattle.path_lookup.specs.Walking.{IsFault};
+ghost use Rattle.path_lookup.specs.WalkFaults.{IsFault};
 ghost use Rattle.directory_tree.specs.Apply.{and_then, directory_at};
 
 use crate::fault::WalkFault;

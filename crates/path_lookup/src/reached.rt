@@ -4,7 +4,7 @@ ghost use Rattle.directory_tree.specs.Apply.{and_then};
 ghost use Rattle.directory_tree.specs.Name.{judged_name};
 ghost use Rattle.directory_tree.specs.Walk.{walk};
 ghost use Rattle.path_lookup.specs.World.{World, Narrows};
-ghost use Rattle.path_lookup.specs.Walking.{IsFault};
+ghost use Rattle.path_lookup.specs.WalkFaults.{IsFault};
 
 use crate::fault::WalkFault;
 use crate::look::Look;

@@ -1,4 +1,4 @@
-//! The last component of a path, which a change makes or takes away, and the text before it.
+//! The last component of a path, which a change makes or removes, and the text before it.
 ghost use Rattle.std.specs.Prelude.{◌≡◌, ◌<◌, ◌≤◌, ◌==◌, ◌⊎◌, ◌∷◌, ◌++◌, [], false, true, length, IfOk, IfErr, Err};
 ghost use Rattle.std.specs.List.{list_any};
 ghost use Rattle.names.specs.Paths.{filled_parts, ends_with_slash};

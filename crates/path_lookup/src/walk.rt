@@ -5,7 +5,7 @@ ghost use Rattle.directory_tree.specs.Walk.{walk};
 ghost use Rattle.directory_tree.specs.Spots.{kind_at};
 ghost use Rattle.path_lookup.specs.World.{World, Narrows, IsTorn};
 ghost use Rattle.directory_tree.specs.declared.node.NodeKind.TheVariants.{Link};
-ghost use Rattle.path_lookup.specs.Walking.{IsFault};
+ghost use Rattle.path_lookup.specs.WalkFaults.{IsFault};
 ghost use Rattle.path_lookup.specs.inner.Steps.{IsDirectory, ComesTo, GoesOn, HasRoom, most_left, onward_from, progress_entry, start_at};
 
 use crate::arrival::{Arrival, arrive};

@@ -9,7 +9,7 @@ use Rattle.directory_tree.specs.declared.change.Change.{Change}
 use Rattle.directory_tree.specs.Tree.{Tree}
 use Rattle.mediation.specs.Deeds.{Deed, policy_after}
 use Rattle.mediation.specs.Judge.{Judge, verdict_by}
-use Rattle.mediation.specs.Opening.{Reached, reached}
+use Rattle.mediation.specs.Opens.{Reached, reached}
 use Rattle.justification.specs.declared.answer.Answer.TheVariants.{Judged}
 use Rattle.justification.proofs.Later.{justified_stays, tree_stays}
 use Rattle.justification.specs.Versions.{IsTreeAt}
@@ -23,9 +23,9 @@ use Rattle.row_rule.specs.declared.view.WalkerView.{WalkerView}
 use Rattle.path_session.specs.declared.quick.Tried.{Tried}
 use Rattle.path_session.specs.declared.quick.Tried.TheVariants.{Found, Walked}
 use Rattle.path_session.specs.inner.Attempts.{HasTried}
-use Rattle.kept_verdicts.specs.Keeping.{kept_of}
+use Rattle.kept_verdicts.specs.KeptFiles.{kept_of}
 use Rattle.path_session.specs.inner.Right.{IsRightFor, AreRight}
-use Rattle.path_session.specs.inner.Sharing.{IsInStep}
+use Rattle.path_session.specs.inner.Shares.{IsInStep}
 
 no_entry : (e : Asked × Kept) → Contains [] e → ⊥
 no_entry e there = let within = there.1 in omega arith

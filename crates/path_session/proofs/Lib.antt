@@ -1,5 +1,5 @@
-pub mod Seeing
-pub mod Standing
-pub mod Sending
+pub mod SeenWalks
+pub mod KeeperStates
+pub mod ThreadSafety
 pub mod SharesKept
 pub mod KeptRight

@@ -13,7 +13,7 @@ use Rattle.mediation.specs.Deeds.{Deed, policy_after}
 use Rattle.mediation.specs.PolicyChanges.{judge_shared}
 use Rattle.profile_registry.proofs.Prefixes.{prefix_whole}
 use Rattle.profile_registry.specs.Views.{Reading}
-use Rattle.path_session.specs.inner.Sharing.{IsShareOf, IsInStep}
+use Rattle.path_session.specs.inner.Shares.{IsShareOf, IsInStep}
 
 abbrev Share : Type 0
 Share = Option (Arc AnyProfile Global)

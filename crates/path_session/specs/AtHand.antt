@@ -1,21 +1,21 @@
--- What a session's calls say where the keeper is at hand, or keeper and publisher are. Opens concurrently with them cite none of
--- this.
+-- What a session's calls say where the keeper is held exclusively, or keeper and publisher are. Opens concurrently with them cite
+-- none of this.
 use Rattle.std.specs.Prelude.{◌≡◌, ◌⊎◌, ◌+◌, ℕ, List}
 use Rattle.dentry_cache.specs.Models.{Held}
 use Rattle.mediation.specs.declared.answer.LinkAnswer.{LinkAnswer}
 use Rattle.mediation.specs.declared.answer.LinkAnswer.TheVariants as link
 use Rattle.mediation.specs.Deeds.{Deed}
-use Rattle.mediation.specs.Linking.{LinkAnswered, IsMade}
-use Rattle.mediation.specs.Opening.{Answered, judged, failed, no_profile}
+use Rattle.mediation.specs.Links.{LinkAnswered, IsMade}
+use Rattle.mediation.specs.Opens.{Answered, judged, failed, no_profile}
 use Rattle.profile_registry.specs.Views.{IsUnanswered, IsUnansweredWith}
 use Rattle.justification.specs.declared.answer.Answer.{Answer}
 use Rattle.justification.specs.declared.answer.Answer.TheVariants.{Judged, Failed, NoProfile, Busy}
 use Rattle.justification.specs.declared.answer.Answer.TheVariants as answer
 use Rattle.path_session.specs.declared.unanswered.Unanswered.{Unanswered}
 use Rattle.path_session.specs.declared.unanswered.Unanswered.TheVariants.{NoEntry, NoMemory}
-use Rattle.path_session.specs.Sitting.{Sitting, counted}
+use Rattle.path_session.specs.Sessions.{Sitting, counted}
 
--- with the keeper at hand, only a verdict may have been kept
+-- with the keeper held exclusively, only a verdict may have been kept
 abbrev pub MayCountKept : ℕ → ℕ → Answer → Type 0
 MayCountKept kept kept_now (Judged verdict node tree policy) = (kept_now ≡ kept) ⊎ (kept_now ≡ counted kept)
 MayCountKept kept kept_now (Failed errno tree) = kept_now ≡ kept
@@ -42,8 +42,8 @@ IsNoLink before now answered NoEntry = IsUnanswered before.reading now.reading n
     × (now.reading.refused ≡ before.reading.refused + 1)
 IsNoLink before now answered NoMemory = IsLetIn before now × IsMade answered
 
--- The same where the publisher is at hand: the reader learned what is published, was let in once, and answered; and why a link isn't
--- answered.
+-- The same where the publisher is held exclusively: the reader learned what is published, was let in once, and answered; and why a
+-- link isn't answered.
 abbrev pub IsLetInWith : List Deed → Sitting → Sitting → Type 0
 IsLetInWith published before now =
     (now.reading.learned ≡ published) × (now.reading.entries ≡ 1) × (now.reading.refused ≡ before.reading.refused)

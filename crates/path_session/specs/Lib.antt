@@ -1,4 +1,4 @@
-pub mod Sitting
+pub mod Sessions
 pub mod AtHand
-pub mod Standing
+pub mod KeeperStates
 pub mod inner

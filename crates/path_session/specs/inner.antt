@@ -1,7 +1,6 @@
 -- Definitions that only private contracts use.
 pub mod Walks
-pub mod Settling
-pub mod Sharing
+pub mod Shares
 pub mod Right
-pub mod Knowing
+pub mod Knowledge
 pub mod Attempts

@@ -1,19 +1,18 @@
-//! Opens and hard links when both the keeper and the publisher are at hand.
+//! Opens and hard links when both the keeper and the publisher are held exclusively.
 ghost use Rattle.std.specs.Prelude.{◌≡◌, ◌≢◌, ◌⊎◌, [], IfOk, IfErr, IsOk, OnOk, OnErr};
 ghost use mathlib.Core.List.{IsPrefix};
 ghost use Rattle.dentry_cache.specs.Walks.{met_at};
 ghost use Rattle.mediation.specs.Answers.{answered, name_opened, link_answered, name_linked};
 ghost use Rattle.mediation.specs.History.{open_answer, link_answer, after_link};
-ghost use Rattle.path_session.specs.Sitting.{IsSameSession, counted};
+ghost use Rattle.path_session.specs.Sessions.{IsSameSession, counted};
 ghost use Rattle.path_session.specs.AtHand.{IsLetInWith, IsNoLinkWith, IsUntouchedUnlessMade};
 ghost use Rattle.profile_registry.specs.Views.{IsUnansweredWith};
-ghost use Rattle.path_session.specs.Standing.{history_of};
+ghost use Rattle.path_session.specs.KeeperStates.{history_of};
 
-use crate::linking::link_by;
 use crate::session::Session;
 use crate::unanswered::Unanswered;
 use dentry_cache::Keeper;
-use mediation::{Answer, LinkAnswer};
+use mediation::{Answer, LinkAnswer, link_by};
 use names::{NoMemory, Perms};
 use profile_registry::{NoEntry, Publisher};
 

@@ -1,17 +1,18 @@
 //! What a session knows of the tree and of the policy, from call to call.
 ghost use Rattle.std.specs.Prelude.{◌≡◌, ◌+◌, ◌≤◌, ◌≢◌, [], IfOk, OnOk, OnErr, Ok, None, length};
 ghost use Rattle.std.specs.Option.{option_map, option_copied};
+ghost use Rattle.names.specs.Limits.{longest_path};
 ghost use mathlib.Core.List.{IsPrefix};
 ghost use Rattle.dentry_cache.specs.Walks.{met_at};
 ghost use Rattle.directory_tree.specs.Tree.{Tree};
 ghost use Rattle.justification.specs.Versions.{IsTreeAt};
 ghost use Rattle.mediation.specs.Deeds.{policy_after};
-ghost use Rattle.mediation.specs.Judging.{reached_of};
-ghost use Rattle.mediation.specs.Opening.{reached};
+ghost use Rattle.mediation.specs.Judgments.{reached_of};
+ghost use Rattle.mediation.specs.Opens.{reached};
 ghost use Rattle.mediation.specs.PolicyChanges.{judge_shared};
 ghost use Rattle.profile_registry.specs.Views.{IsUnanswered, IsUnansweredWith};
-ghost use Rattle.path_session.specs.inner.Knowing.{IsCurrent, asked_by};
-ghost use Rattle.kept_verdicts.specs.Keeping.{kept_of};
+ghost use Rattle.path_session.specs.inner.Knowledge.{IsCurrent, asked_by};
+ghost use Rattle.kept_verdicts.specs.KeptFiles.{kept_of};
 ghost use Rattle.path_session.specs.inner.Right.{IsRightFor};
 
 use crate::share::Share;
@@ -46,10 +47,10 @@ pub(crate) struct Knowledge {
 impl Model for Knowledge {
     ghost use Rattle.std.specs.Prelude.{IsSome};
     ghost use Rattle.std.specs.Option.{unwrap_or};
-    ghost use Rattle.path_session.specs.inner.Knowing.{no_walk};
-    ghost use Rattle.path_session.specs.inner.Knowing.{Knowing};
+    ghost use Rattle.path_session.specs.inner.Knowledge.{no_walk};
+    ghost use Rattle.path_session.specs.inner.Knowledge.{Knowing};
     ghost use Rattle.path_session.specs.inner.Right.{AreRight};
-    ghost use Rattle.path_session.specs.inner.Sharing.{IsShareOf, IsInStep};
+    ghost use Rattle.path_session.specs.inner.Shares.{IsShareOf, IsInStep};
 
     ghost Value = { Knowing };
 
@@ -190,11 +191,11 @@ impl Knowledge {
         room: &[u8; NAME_ROOM],
     ) -> Judged
         requires current { IsCurrent self.old policy_version }
-        requires fits { file.now.name_length ≤ 4095 }
+        requires fits { file.now.name_length ≤ longest_path }
         requires reached { (t : Tree) × IsTreeAt self.old.walk.view.seen tree_version t
             × (reached t path.now ask ≡ Ok (reached_of room.now file.now)) }
         ensures same { self.new ≡ self.old }
-        ensures fits { result.name_length ≤ 4095 }
+        ensures fits { result.name_length ≤ longest_path }
         ensures right { IsRightFor self.old.walk.view.seen self.old.reading.seen
             (asked_by self.old path.now ask tree_version policy_version) (kept_of room.now result) }
     {

@@ -2,17 +2,17 @@
 //! for nobody.
 //!
 //! [`Session::try_open`] answers concurrently with the tree's keeper and the policy's publisher, or says that the tree was
-//! being changed; [`Session::open_with`] answers at once when the keeper is at hand, and [`Session::link_with`] makes hard
-//! links. If the publisher is at hand, too, [`Session::open_with_both`] and [`Session::link_with_both`] answer by all that it
-//! has published.
+//! being changed; [`Session::open_with`] answers at once when the keeper is held exclusively, and [`Session::link_with`] makes
+//! hard links. If the publisher is held exclusively, too, [`Session::open_with_both`] and [`Session::link_with_both`] answer by
+//! all that it has published.
 //!
 //! The definitions to believe are those in `specs/`.
 #![tactic(auto)]
 
 mod at_hand;
-mod keeping;
+mod keeper_opens;
 mod knowledge;
-mod linking;
+mod links;
 mod quick;
 mod session;
 mod share;

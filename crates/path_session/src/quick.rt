@@ -1,16 +1,17 @@
 //! Opens concurrently with the keeper.
 ghost use Rattle.std.specs.Prelude.{◌≡◌, ◌≢◌, ◌+◌, ◌%◌, ◌≤◌, [], length};
 ghost use Rattle.std.specs.Prelude.{ℕ, List, Contains, IfOk, IfErr, Ok, Err};
+ghost use Rattle.names.specs.Limits.{longest_path};
 ghost use mathlib.Core.List.{IsPrefix};
 ghost use Rattle.mediation.specs.Deeds.{policy_after};
-ghost use Rattle.mediation.specs.Judging.{reached_of};
+ghost use Rattle.mediation.specs.Judgments.{reached_of};
 ghost use Rattle.justification.specs.Justified.{Justified};
-ghost use Rattle.path_session.specs.Sitting.{IsSameSession, HasSeenMore, HasReadPolicy, HasReadCounts, HasVersions, IsByCounts};
-ghost use Rattle.path_session.specs.Sitting.{CountsKept, IsNameJudged, IsByPublished, CountsRefusals};
-ghost use Rattle.verdict_cache.specs.Asking.{asked_of};
+ghost use Rattle.path_session.specs.Sessions.{IsSameSession, HasSeenMore, HasReadPolicy, HasReadCounts, HasVersions, IsByCounts};
+ghost use Rattle.path_session.specs.Sessions.{CountsKept, IsNameJudged, IsByPublished, CountsRefusals};
+ghost use Rattle.verdict_cache.specs.StructQuestions.{asked_of};
 ghost use Rattle.verdict_cache.specs.Questions.{Asked, Kept};
 ghost use Rattle.path_session.specs.inner.Attempts.{HasTried};
-ghost use Rattle.path_session.specs.inner.Knowing.{IsCurrent, asked_by, answer_of, name_of};
+ghost use Rattle.path_session.specs.inner.Knowledge.{IsCurrent, asked_by, answer_of, name_of};
 ghost use Rattle.path_session.specs.inner.Right.{IsRightFor};
 ghost use Rattle.path_session.specs.inner.Walks.{HasWalked, WasDisturbed};
 
@@ -28,7 +29,7 @@ use verdict_cache::Question;
 impl Session {
     /// Opens a file, concurrently with keeper and publisher: reads the policy, then the count; a verdict that is kept under these
     /// versions is the answer. Otherwise it walks, and reads the count again. If a change was open or came between, the answer is
-    /// `Busy`. It waits for nobody. It takes no memory except to keep a verdict, and if that is refused, the answer is the same.
+    /// `Busy`. It waits for nobody. It allocates no memory except to keep a verdict, and if that is refused, the answer is the same.
     ///
     /// The answer is right for the changes of tree and policy that the session has then seen: those that it had seen before,
     /// and all that were made up to its own reads in this call (open(2), apparmor.d(5)).
@@ -125,7 +126,7 @@ impl Knowledge {
         ensures justified { Justified self.old.profile path.now ask self.new.walk.view.seen self.old.reading.seen
             (answer_of policy_version result) }
         ensures name { IsNameJudged self.new.walk.view.seen path.now ask (answer_of policy_version result) (name_of room.new result) }
-        ensures fits { IfOk result (λ opened. IfOk opened.file (λ file. file.name_length ≤ 4095)) }
+        ensures fits { IfOk result (λ opened. IfOk opened.file (λ file. file.name_length ≤ longest_path)) }
     {
         let walked = match self.try_walk(path, ask, policy_version, scratch, room)? {
             Tried::Found { version, file } => {
@@ -258,7 +259,7 @@ fn walk_beside(
     ensures counts { result.0.view.count_reads ≡ attempt.view.count_reads + 1 }
     ensures noted { result.0.view.noted ≡ attempt.view.noted }
     ensures ok { IfOk result.1 (λ walked. HasWalked result.0.view path.now ask room.new walked.version walked.file) }
-    ensures fits { IfOk result.1 (λ walked. IfOk walked.file (λ file. file.name_length ≤ 4095)) }
+    ensures fits { IfOk result.1 (λ walked. IfOk walked.file (λ file. file.name_length ≤ longest_path)) }
     ensures busy { IfErr result.1 (WasDisturbed result.0.view) }
 {
     let mut look: RowLook<Attempt> = RowLook::new(attempt);

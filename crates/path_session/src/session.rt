@@ -25,8 +25,9 @@ pub struct Session {
 }
 
 impl Model for Session {
+    ghost use Rattle.names.specs.Limits.{longest_path};
     ghost use Rattle.std.specs.Prelude.{◌≤◌, take};
-    ghost use Rattle.path_session.specs.Sitting.{Sitting};
+    ghost use Rattle.path_session.specs.Sessions.{Sitting};
 
     ghost Value = { Sitting };
 
@@ -39,7 +40,7 @@ impl Model for Session {
       kept_answers = s.known.kept_answers;
     } };
 
-    ghost invariant = { λ s. s.name_length ≤ 4095 };
+    ghost invariant = { λ s. s.name_length ≤ longest_path };
 }
 
 impl Session {

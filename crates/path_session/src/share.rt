@@ -5,7 +5,7 @@ ghost use mathlib.Core.List.{IsPrefix};
 ghost use Rattle.mediation.specs.Deeds.{policy_after};
 ghost use Rattle.mediation.specs.PolicyChanges.{judge_shared};
 ghost use Rattle.profile_registry.specs.Views.{IsUnanswered, IsUnansweredWith};
-ghost use Rattle.path_session.specs.inner.Sharing.{IsShareOf};
+ghost use Rattle.path_session.specs.inner.Shares.{IsShareOf};
 
 use matcher::AnyProfile;
 use profile_registry::{News, NoEntry, PolicyReader, Publisher};

@@ -1,7 +1,7 @@
 pub mod Closures
-pub mod Counting
+pub mod Counts
 pub mod Logged
 pub mod OneCount
 pub mod Opened
 pub mod Pushed
-pub mod Sending
+pub mod ThreadSafety

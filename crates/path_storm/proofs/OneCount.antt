@@ -1,7 +1,7 @@
 -- The number of answers that a predicate doesn't hold of is unique.
 use Rattle.std.proofs.Common.{◌≡◌, ℕ, ◌+◌, List, [], ◌∷◌, sym, ap, ◌∙◌, inl, inr}
 use Rattle.justification.specs.declared.answer.Answer.{Answer}
-use Rattle.path_storm.specs.Counting.{IsCountOfOthers}
+use Rattle.path_storm.specs.Counts.{IsCountOfOthers}
 
 pub one_count : (Holds : Answer → Type 0) (answers : List Answer) (one other : ℕ) → IsCountOfOthers Holds answers one
     → IsCountOfOthers Holds answers other → one ≡ other

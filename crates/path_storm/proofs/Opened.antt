@@ -9,14 +9,14 @@ use Rattle.justification.proofs.Later.{justified_stays}
 use Rattle.justification.specs.Justified.{Justified}
 use Rattle.justification.specs.declared.answer.Answer.{Answer}
 use Rattle.justification.specs.declared.answer.Answer.TheVariants.{Judged, Failed, NoProfile, Busy, NoEntry}
-use Rattle.path_session.specs.Sitting.{Sitting, IsSameSession, HasSeenMore, CountsRefusals}
-use Rattle.guarded_row.specs.Opening.{HasAsked}
-use Rattle.path_storm.specs.Counting.{IsCountOfOthers}
+use Rattle.path_session.specs.Sessions.{Sitting, IsSameSession, HasSeenMore, CountsRefusals}
+use Rattle.guarded_row.specs.Opens.{HasAsked}
+use Rattle.path_storm.specs.Counts.{IsCountOfOthers}
 use Rattle.path_storm.specs.Logs.{HasEntry, IsOpenedBy}
-use Rattle.path_storm.specs.declared.laying.TheConstants.{FILE, PROFILE}
+use Rattle.path_storm.specs.declared.setup.TheConstants.{FILE, PROFILE}
 use Rattle.path_storm.specs.declared.log.SessionLog.{SessionLog}
 use Rattle.path_storm.specs.declared.worker.Opens.{Opens}
-use Rattle.path_storm.proofs.Counting.{one_holds, one_other}
+use Rattle.path_storm.proofs.Counts.{one_holds, one_other}
 use Rattle.path_storm.proofs.Pushed.{none_yet, one_more}
 
 each_stays : (P Q : Answer → Type 0) (answers : List Answer) → ((answer : Answer) → P answer → Q answer) → All P answers → All Q answers

@@ -1,4 +1,4 @@
-pub mod Counting
+pub mod Counts
 pub mod Faults
 pub mod Logs
 pub mod inner

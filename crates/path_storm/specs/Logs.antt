@@ -12,8 +12,8 @@ use Rattle.matcher.specs.declared.profiles.PolicyChange.TheVariants.{Replace}
 use Rattle.justification.specs.Justified.{Justified}
 use Rattle.justification.specs.declared.answer.Answer.{Answer}
 use Rattle.justification.specs.declared.answer.Answer.TheVariants.{NoEntry}
-use Rattle.path_storm.specs.Counting.{IsCountOfOthers}
-use Rattle.path_storm.specs.declared.laying.TheConstants.{FILE, PROFILE}
+use Rattle.path_storm.specs.Counts.{IsCountOfOthers}
+use Rattle.path_storm.specs.declared.setup.TheConstants.{FILE, PROFILE}
 use Rattle.path_storm.specs.declared.log.SessionLog.{SessionLog}
 use Rattle.path_storm.specs.declared.log.TreeLog.{TreeLog}
 use Rattle.path_storm.specs.declared.log.PolicyLog.{PolicyLog}

@@ -1,6 +1,6 @@
 //! Laws of the reports of storms. The functions do nothing: each exists for its contract.
 ghost use Rattle.std.specs.Prelude.{◌≡◌};
-ghost use Rattle.path_storm.specs.Counting.{IsReportOf};
+ghost use Rattle.path_storm.specs.Counts.{IsReportOf};
 ghost use Rattle.path_storm.specs.declared.log.StormLog.{StormLog};
 ghost use Rattle.path_storm.specs.declared.plan.StormReport.{StormReport};
 

@@ -3,14 +3,14 @@ ghost use Rattle.std.specs.Prelude.{◌≡◌, ◌+◌, ℕ, IfErr, IfOk, map};
 ghost use Rattle.path_storm.specs.declared.fault.StormFault.TheVariants.{NoMemory};
 ghost use Rattle.mediation.specs.PolicyChanges.{deed_of};
 ghost use Rattle.justification.specs.Justified.{Justified};
-ghost use Rattle.path_storm.specs.Counting.{IsCountOfOthers, IsReportOf};
+ghost use Rattle.path_storm.specs.Counts.{IsCountOfOthers, IsReportOf};
 ghost use Rattle.path_storm.specs.Logs.{IsPolicyLog, IsTreeLog};
 
 use crate::fault::StormFault;
-use crate::laying::{FILE, PROFILE};
 use crate::plan::StormReport;
-use answer_trail::Trail;
+use crate::setup::{FILE, PROFILE};
 use directory_tree::Change;
+use justification::Trail;
 use matcher::PolicyChange;
 use names::{Errno, Perms};
 use path_guard::{Answer, Session};

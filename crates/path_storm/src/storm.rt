@@ -1,15 +1,15 @@
 //! The storm.
 ghost use Rattle.std.specs.Prelude.{◌≡◌, ◌*◌, IfOk, vec_len};
 ghost use Rattle.path_storm.specs.declared.log.StormLog.{StormLog};
-ghost use Rattle.path_storm.specs.Counting.{IsReportOf};
+ghost use Rattle.path_storm.specs.Counts.{IsReportOf};
 ghost use Rattle.path_storm.specs.Logs.{IsLogOf};
 
 use crate::fault::StormFault;
 use crate::gate::Gate;
-use crate::laying::lay;
 use crate::log::StormLog;
 use crate::plan::{Plan, StormReport};
 use crate::profiles::Profiles;
+use crate::setup::lay;
 use crate::threads::{Scene, blow};
 use crate::worker::{Opens, Worker};
 use names::{Permission, Perms};

@@ -1,12 +1,12 @@
 //! The work of a session's thread.
 ghost use Rattle.std.specs.Prelude.{◌≡◌, IfOk};
 ghost use Rattle.path_storm.specs.Logs.{IsOpenedBy};
-ghost use Rattle.path_storm.specs.declared.laying.TheConstants.{PROFILE};
+ghost use Rattle.path_storm.specs.declared.setup.TheConstants.{PROFILE};
 
 use crate::fault::StormFault;
 use crate::gate::Gate;
-use crate::laying::{FILE, PROFILE};
 use crate::log::SessionLog;
+use crate::setup::{FILE, PROFILE};
 use names::Perms;
 use path_guard::{Guard, Row, Session};
 use std::alloc::Global;

@@ -14,19 +14,19 @@ use Rattle.directory_tree.specs.Tree.{Tree, Entry, WellFormed, root, own_entry, 
 use Rattle.directory_tree.specs.Walk.{Spot}
 use Rattle.directory_tree.specs.Walk.Spot.{Root, Held}
 use Rattle.directory_tree.specs.Spots.{Stands, shape_of, node_at, kind_at}
-use Rattle.directory_tree.specs.Apply.{Changed, apply, has_room, max_changes}
+use Rattle.directory_tree.specs.Apply.{Changed, apply, has_room, most_changes}
 use Rattle.directory_tree.specs.Plain.{Plain, tree_of, outcome}
 use Rattle.path_lookup.specs.declared.fault.WalkFault.{WalkFault}
 use Rattle.path_lookup.specs.declared.fault.WalkFault.TheVariants.{Refused, Torn}
 use Rattle.path_lookup.specs.World.{World}
-use Rattle.path_lookup.specs.Walking.{IsFault}
+use Rattle.path_lookup.specs.WalkFaults.{IsFault}
 use Rattle.change_checks.specs.declared.act.Act.{Act}
 use Rattle.change_checks.specs.Act.{acted}
 use Rattle.plain_tree.specs.declared.entry.PlainEntry.{PlainEntry}
 use Rattle.plain_tree.specs.PlainEntry.{means_in}
 use Rattle.plain_tree.specs.PlainLaws.{SeesPlain, entry_stands}
 use Rattle.plain_tree.specs.inner.Mirror.{some_parent, stands_at}
-use Rattle.directory_tree.proofs.Standing.{placed_at}
+use Rattle.directory_tree.proofs.Presence.{placed_at}
 use Rattle.directory_tree.proofs.Histories.{plain_well}
 
 -- the one world that a plain tree sees
@@ -46,20 +46,20 @@ pub told : (p : Plain) (answer : World → Changed) (fault : WalkFault) (errno :
 told p answer fault errno is h = (subst (IsFault ⊥ (SeesPlain p) answer) is h) (world_of p) refl
 
 -- a change that is counted does what it does to the tree, and none that is not
-outcome_counted : (p : Plain) (change : Change) → length p.history < max_changes → outcome p change ≡ apply (tree_of p)
+outcome_counted : (p : Plain) (change : Change) → length p.history < most_changes → outcome p change ≡ apply (tree_of p)
     (has_room p.capacity (tree_of p)) change
 outcome_counted p change few =
-    let counted : nat_lt (length p.history) max_changes ≡ true = lt-ltb (length p.history) max_changes few in
+    let counted : nat_lt (length p.history) most_changes ≡ true = lt-ltb (length p.history) most_changes few in
     ap (λ (b : Bool). if b then apply (tree_of p) (has_room p.capacity (tree_of p)) change else Err EOVERFLOW) counted
 
-pub counted_ok : (p q : Plain) (change : Change) (act : Act PlainEntry) → p ≡ q → length q.history < max_changes
+pub counted_ok : (p q : Plain) (change : Change) (act : Act PlainEntry) → p ≡ q → length q.history < most_changes
     → apply (tree_of p) (has_room p.capacity (tree_of p)) change ≡ Ok (acted (means_in (tree_of p)) (tree_of p) act) → outcome q change
     ≡ Ok (acted (means_in (tree_of q)) (tree_of q) act)
 counted_ok p q change act same few h =
     outcome_counted q change few ∙ subst (λ (x : Plain). apply (tree_of x) (has_room x.capacity (tree_of x)) change
     ≡ Ok (acted (means_in (tree_of x)) (tree_of x) act)) same h
 
-pub counted_err : (p q : Plain) (change : Change) (errno : Errno) → p ≡ q → length q.history < max_changes
+pub counted_err : (p q : Plain) (change : Change) (errno : Errno) → p ≡ q → length q.history < most_changes
     → apply (tree_of p) (has_room p.capacity (tree_of p)) change ≡ Err errno → outcome q change ≡ Err errno
 counted_err p q change errno same few h = outcome_counted q change few
     ∙ subst (λ (x : Plain). apply (tree_of x) (has_room x.capacity (tree_of x)) change ≡ Err errno) same h

@@ -14,8 +14,8 @@ use Rattle.plain_tree.specs.inner.Store.{stored_node, Enters, Leaves, Shifts, Is
 use Rattle.plain_tree.specs.inner.Mirror.{Mirrors, Holds, IsShort, IsEmptied, AreOther, node_for, some_parent}
 use Rattle.directory_tree.proofs.Basics.{true_is_false, none_is_some}
 use Rattle.directory_tree.proofs.Found.{Apart, empty_none, without-none}
-use Rattle.directory_tree.proofs.Standing.{placed_at}
-use Rattle.directory_tree.proofs.Placing.{is_node, node_same, length_dropped, length_placed, none_empty}
+use Rattle.directory_tree.proofs.Presence.{placed_at}
+use Rattle.directory_tree.proofs.Placement.{is_node, node_same, length_dropped, length_placed, none_empty}
 use Rattle.plain_tree.proofs.Mirrors.{mirrors_entered, mirrors_left, mirrors_shifted}
 use Rattle.plain_tree.proofs.Held.{well_changed, holds_well, holds_step, short_entered, short_dropped, short_moved}
 

@@ -2,7 +2,7 @@
 use Rattle.std.proofs.Common.{◌≡◌, ℕ, ◌≤◌, ◌==◌, Bool, true, false, List, length, Bor, Some, None, Option, sym, refl, ap, ◌∙◌, subst}
 use Rattle.std.proofs.Common.{eqb-true, ne_eqb, arith}
 use Rattle.std.specs.Prelude.{if◌then◌else◌, IsSome, is_some, IfSome}
-use Rattle.directory_tree.proofs.Placing.{root_nowhere}
+use Rattle.directory_tree.proofs.Placement.{root_nowhere}
 use Rattle.std.specs.Option.{option_map, option_copied}
 use Rattle.plain_tree.specs.declared.directory.Node.{Node}
 use Rattle.plain_tree.specs.declared.directory.Parent.{Parent}

@@ -1,21 +1,21 @@
 -- What a plain tree holds, before and after a change that is accepted.
-use Rattle.std.proofs.Common.{◌≡◌, ℕ, ◌+◌, ◌≤◌, ◌==◌, Bool, true, false, List, [], ◌∷◌, ◌++◌, length, Some, None, Option, sym, refl, ap}
-use Rattle.std.proofs.Common.{◌∙◌, subst, arith, length-append, eqb-true}
+use Rattle.std.proofs.Common.{◌≡◌, ℕ, ◌+◌, ◌<◌, ◌≤◌, ◌^◌, ◌==◌, Bool, true, false, List, [], ◌∷◌, ◌++◌, length, Some, None, Option}
+use Rattle.std.proofs.Common.{sym, refl, ap, ◌∙◌, subst, arith, length-append, eqb-true}
 use Rattle.std.specs.Prelude.{if◌then◌else◌, Ok, Err}
 use mathlib.Core.Logic.{inl, inr}
 use Rattle.directory_tree.specs.declared.change.Change.{Change}
 use Rattle.plain_tree.specs.declared.store.Store.{Store}
 use Rattle.directory_tree.specs.Tree.{Tree, Entry, WellFormed, Has, root, root_alone, find, own_entry}
-use Rattle.directory_tree.specs.Apply.{Changed, with_entry, dropped, moved, and_then, apply_counted, after_from, tree_after}
+use Rattle.directory_tree.specs.Apply.{Changed, with_entry, dropped, moved, tree_after}
 use Rattle.directory_tree.specs.Plain.{Plain, tree_of, new_plain, changed, outcome, Accepted}
 use Rattle.std.specs.Option.{option_map}
 use Rattle.plain_tree.specs.inner.Store.{known_parent}
 use Rattle.plain_tree.specs.inner.Mirror.{Mirrors, Holds, IsShort, parent_for, some_parent, stands_at}
-use Rattle.directory_tree.proofs.Basics.{ok_inj, err_is_ok, some_inj, none_is_some}
+use Rattle.directory_tree.proofs.Basics.{some_inj, none_is_some}
 use Rattle.directory_tree.proofs.Found.{Apart}
 use Rattle.directory_tree.proofs.Changes.{tree_after_well}
-use Rattle.directory_tree.proofs.Placing.{root_nowhere, is_key, find_entered, after_moved}
-use Rattle.directory_tree.proofs.Dropping.{without_old}
+use Rattle.directory_tree.proofs.Placement.{root_nowhere, is_key, find_entered, after_moved}
+use Rattle.directory_tree.proofs.Drops.{without_old}
 use Rattle.directory_tree.proofs.OneMore.{after_more}
 
 module _ (p : Plain) (change : Change) (u : Tree) (accepted : tree_after p.capacity p.history ≡ Ok (tree_of p))
@@ -42,6 +42,7 @@ pub holds_next : (s : Store) (n number made : ℕ) (p : Plain) (change : Change)
 holds_next s n number made p change u s' n' number' made' h is mirrors count next more few short =
     let same : u ≡ tree_of (changed p change) = sym (tree_changed p change u h.accepted is) in
     record {
+      capacity_fits = h.capacity_fits;
       accepted = tree_next p change u h.accepted is ∙ ap Ok same;
       mirrors = subst (Mirrors s') same mirrors;
       entries = count ∙ ap (λ (t : Tree). length t.entries) same;
@@ -51,8 +52,9 @@ holds_next s n number made p change u s' n' number' made' h is mirrors count nex
       short = subst AllShort same short;
     }
 
-pub holds_new : (s : Store) (capacity : ℕ) → Mirrors s root_alone → Holds s 0 2 0 (new_plain capacity)
-holds_new s capacity m = record {
+pub holds_new : (s : Store) (capacity : ℕ) → capacity < 2 ^ 64 → Mirrors s root_alone → Holds s 0 2 0 (new_plain capacity)
+holds_new s capacity fits m = record {
+  capacity_fits = fits;
   accepted = refl;
   mirrors = m;
   entries = refl;

@@ -12,8 +12,8 @@ use Rattle.plain_tree.specs.inner.Store.{stored_node, stored_parent, new_parent,
 use Rattle.plain_tree.specs.inner.Mirror.{Mirrors, node_for, some_parent, stands_at}
 use Rattle.directory_tree.proofs.Basics.{true_is_false, bytes_same}
 use Rattle.directory_tree.proofs.Found.{Apart}
-use Rattle.directory_tree.proofs.Placing.{is_key, is_node, node_same, find_entered, own_entry_entered, find_dropped, own_entry_dropped}
-use Rattle.directory_tree.proofs.Placing.{find_moved, own_entry_moved, is_gone, gone_found}
+use Rattle.directory_tree.proofs.Placement.{is_key, is_node, node_same, find_entered, own_entry_entered, find_dropped, own_entry_dropped}
+use Rattle.directory_tree.proofs.Placement.{find_moved, own_entry_moved, is_gone, gone_found}
 
 abbrev nowhere : Option (Option Parent)
 nowhere = None

@@ -1,6 +1,6 @@
 -- What an entry of a plain tree stands for.
 use Rattle.std.specs.Prelude.{ℕ, ◌≤◌, List, Option, Some, None, take, IsSome}
-use Rattle.names.specs.declared.paths.TheConstants.{LONGEST_COMPONENT}
+use Rattle.names.specs.declared.limits.TheConstants.{LONGEST_COMPONENT}
 use Rattle.plain_tree.specs.declared.entry.EntryKey.{EntryKey}
 use Rattle.plain_tree.specs.declared.entry.PlainEntry.{PlainEntry}
 use Rattle.plain_tree.specs.declared.entry.PlainEntry.TheVariants as entry

@@ -5,7 +5,6 @@
 
 mod directory;
 mod entry;
-mod history;
 mod look;
 mod plain;
 mod store;

@@ -2,7 +2,7 @@
 ghost use Rattle.std.specs.Prelude.{◌≡◌, ◌+◌, ◌<◌, ◌≤◌, true, length, Ok, Err, None, OnOk, IfOk, IfErr, IsOk, IsSome, IfSome};
 ghost use Rattle.std.specs.Option.{option_map, option_copied};
 ghost use Rattle.directory_tree.specs.Tree.{find, own_entry, is_directory, is_empty};
-ghost use Rattle.directory_tree.specs.Apply.{entry, with_entry, dropped, moved, has_room, max_changes};
+ghost use Rattle.directory_tree.specs.Apply.{entry, with_entry, dropped, moved, has_room, most_changes};
 ghost use Rattle.directory_tree.specs.Plain.{new_plain, tree_of, outcome, Accepted, Refused};
 ghost use Rattle.change_checks.specs.Act.{kind_of_new, acted, IsTested, IsVacant, NamesOnly, Fits, FitsNode};
 ghost use Rattle.change_checks.specs.declared.act.Act.TheVariants as act;
@@ -11,17 +11,13 @@ ghost use Rattle.plain_tree.specs.PlainEntry.{means_in, knows_in};
 
 use crate::directory::{Node, Parent};
 use crate::entry::PlainEntry;
-use crate::history::History;
 use crate::store::Store;
 use change_checks::{Act, NewNode, Place, check_change};
-use directory_tree::{Change, LinkText, NodeKind};
-use names::{Errno, LONGEST_COMPONENT, NoMemory};
+use directory_tree::{Change, LinkText, NodeKind, TreeHistory};
+use names::{Errno, LONGEST_COMPONENT, MOST_CHANGES, NoMemory};
 use path_lookup::WalkFault;
 use std::alloc::Global;
 use std::marker::Model;
-
-/// The most changes: 2^60 - 1.
-const MAX_CHANGES: u64 = 1152921504606846975;
 
 /// The number of the root's node.
 pub(crate) const ROOT: u64 = 1;
@@ -37,7 +33,7 @@ pub struct PlainTree {
     // The number of the next node.
     next: u64,
     version: u64,
-    history: History,
+    history: TreeHistory,
 }
 
 impl Model for PlainTree {
@@ -66,7 +62,7 @@ impl PlainTree {
             capacity,
             next: 2,
             version: 0,
-            history: History::new(),
+            history: TreeHistory::new(),
         })
     }
 
@@ -112,14 +108,14 @@ impl PlainTree {
     // What the change would do, or the error with which it is refused. Whether it is counted is checked first.
     fn tested<'a>(&mut self, change: &Change<'a>) -> Result<Act<'a, PlainEntry>, Errno>
         ensures same { self.new ≡ self.old }
-        ensures counted { OnOk result (length self.old.history < max_changes) }
+        ensures counted { OnOk result (length self.old.history < most_changes) }
         ensures known { IfOk result (NamesOnly (knows_in (tree_of self.old))) }
         ensures fits { IfOk result Fits }
         ensures acts { IfOk result (λ act. outcome self.old change.now ≡ Ok (acted (means_in (tree_of self.old)) (tree_of self.old) act)) }
         ensures tested { IfOk result (IsTested (means_in (tree_of self.old)) (tree_of self.old) self.old.capacity) }
         ensures err { IfErr result (λ errno. outcome self.old change.now ≡ Err errno) }
     {
-        if self.version >= MAX_CHANGES {
+        if self.version >= MOST_CHANGES {
             return Err(Errno::EOVERFLOW);
         }
         match check_change(self, change) {
@@ -143,7 +139,7 @@ impl PlainTree {
         requires acts { outcome self.old change.now
             ≡ Ok (acted (means_in (tree_of self.old)) (tree_of self.old) (act.Make place.now node.now)) }
         requires tested { IsVacant (means_in (tree_of self.old)) (tree_of self.old) self.old.capacity place.now }
-        requires counted { length self.old.history < max_changes }
+        requires counted { length self.old.history < most_changes }
         ensures ok { IfOk result (λ version. Accepted self.old self.new change.now version) }
         ensures err { IfErr result (λ errno. Refused self.old self.new change.now errno) }
     {
@@ -174,7 +170,7 @@ impl PlainTree {
         requires acts { outcome self.old change.now
             ≡ Ok (acted (means_in (tree_of self.old)) (tree_of self.old) (act.Link file.now place.now)) }
         requires tested { IsVacant (means_in (tree_of self.old)) (tree_of self.old) self.old.capacity place.now }
-        requires counted { length self.old.history < max_changes }
+        requires counted { length self.old.history < most_changes }
         ensures ok { IfOk result (λ version. Accepted self.old self.new change.now version) }
         ensures err { IfErr result (λ errno. Refused self.old self.new change.now errno) }
     {
@@ -247,7 +243,7 @@ impl PlainTree {
         requires fresh { is_directory node.kind ≡ true → stands_at (tree_of self.old) node.number ≡ None }
         requires short { IsShort (entry of component.now node.number node.kind) }
         requires few { next ≤ length self.old.history + 3 }
-        requires counted { length self.old.history < max_changes }
+        requires counted { length self.old.history < most_changes }
         requires room { length (tree_of self.old).entries < self.old.capacity }
         ensures ok { IfOk result (λ version. Accepted self.old self.new change.now version) }
         ensures err { IfErr result (λ errno. Refused self.old self.new change.now errno) }
@@ -267,7 +263,7 @@ impl PlainTree {
         requires new { outcome self.old change.now ≡ Ok (dropped (tree_of self.old) of component.now) }
         requires there { IsSome (find (tree_of self.old).entries of component.now) }
         requires empty { IsEmptied (tree_of self.old) (find (tree_of self.old).entries of component.now) }
-        requires counted { length self.old.history < max_changes }
+        requires counted { length self.old.history < most_changes }
         ensures { Accepted self.old self.new change.now result }
     {
         self.store.leave(of, component);
@@ -292,7 +288,7 @@ impl PlainTree {
         requires empty { IsEmptied (tree_of self.old) (find (tree_of self.old).entries into name.now) }
         requires other { AreOther (find (tree_of self.old).entries of component.now) (find (tree_of self.old).entries into name.now) }
         requires short { length name.now ≤ LONGEST_COMPONENT }
-        requires counted { length self.old.history < max_changes }
+        requires counted { length self.old.history < most_changes }
         ensures ok { IfOk result (λ version. Accepted self.old self.new change.now version) }
         ensures err { IfErr result (λ errno. Refused self.old self.new change.now errno) }
     {
@@ -308,7 +304,7 @@ impl PlainTree {
     // A change that leaves the tree as it is.
     fn keep(&mut self, change: &Change<'_>) -> u64
         requires new { outcome self.old change.now ≡ Ok (tree_of self.old) }
-        requires counted { length self.old.history < max_changes }
+        requires counted { length self.old.history < most_changes }
         ensures { Accepted self.old self.new change.now result }
     {
         self.history = self.history.and(change);

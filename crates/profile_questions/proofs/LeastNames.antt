@@ -5,14 +5,14 @@ use Rattle.std.proofs.lemmas.Bool.{and_parts, and_from, cases_lt}
 use Rattle.std.proofs.lemmas.Option.{same_Some, slice_get_within}
 use Rattle.names.specs.Bytes.{are_bytes}
 use Rattle.names.specs.Paths.{IsName}
-use Rattle.automata.specs.Automata.{state_after}
+use Rattle.automaton_rows.specs.Automata.{state_after}
 use Rattle.automaton_search.specs.declared.states.States.{States}
 use Rattle.automaton_search.specs.Visits.{VisitsValue, states_after}
 use Rattle.automaton_search.proofs.Orders.{at_most_through}
 use Rattle.profile_questions.specs.declared.answer.Answers.{Answers}
 use Rattle.profile_questions.specs.Names.{CompiledValue}
 use Rattle.profile_questions.specs.Questions.{IsFound, IsShortest}
-use Rattle.profile_questions.specs.inner.Comparing.{IsComparison, compared}
+use Rattle.profile_questions.specs.inner.Comparisons.{IsComparison, compared}
 use Rattle.profile_questions.specs.inner.Marks.{AreMarked, all_marked}
 use Rattle.profile_questions.proofs.RecordAnswers.{marked_answer}
 

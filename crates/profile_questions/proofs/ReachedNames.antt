@@ -8,7 +8,7 @@ use Rattle.std.proofs.lemmas.List.{length-map}
 use Rattle.std.proofs.lemmas.Option.{none-some, same_Some, slice_get-map, slice_get_within, slice_get-get_or}
 use Rattle.names.specs.Paths.{IsName}
 use Rattle.rule_globs.specs.Rules.{RuleValue}
-use Rattle.automata.specs.Automata.{Automaton, state_after}
+use Rattle.automaton_rows.specs.Automata.{Automaton, state_after}
 use Rattle.automaton_search.specs.declared.fault.SearchFault.{SearchFault}
 use Rattle.automaton_search.specs.declared.fault.SearchFault.TheVariants as searching
 use Rattle.automaton_search.specs.declared.states.States.{States}

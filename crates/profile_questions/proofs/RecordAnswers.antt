@@ -12,7 +12,7 @@ use Rattle.names.specs.Records.{IsTold}
 use Rattle.names.proofs.LeastNumbers.{least_there, least_none, least_some, none_least}
 use Rattle.rule_globs.specs.Rules.{RuleValue}
 use Rattle.rule_globs.specs.Verdict.{Hits, IsVerdict}
-use Rattle.automata.specs.Automata.{Automaton, state_after}
+use Rattle.automaton_rows.specs.Automata.{Automaton, state_after}
 use Rattle.glob_automaton.specs.Automata.{IsAutomatonOf}
 use Rattle.glob_automaton.specs.Least.{IsLeastRecord}
 use Rattle.profile_questions.specs.declared.answer.Answer.{Answer}

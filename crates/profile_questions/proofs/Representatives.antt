@@ -8,7 +8,7 @@ use Rattle.rule_globs.specs.Glob.{Glob, Takes, LiveOrEnd, places}
 use Rattle.rule_globs.specs.LiveSteps.{IsLeftFirst}
 use Rattle.rule_globs.specs.Rules.{RuleValue, pattern}
 use Rattle.rule_globs.specs.Verdict.{IsRuleAt}
-use Rattle.automata.specs.Automata.{Automaton, state_after}
+use Rattle.automaton_rows.specs.Automata.{Automaton, state_after}
 use Rattle.automaton_search.specs.declared.states.States.{States}
 use Rattle.automaton_search.specs.Visits.{VisitsValue}
 use Rattle.glob_automaton.specs.Automata.{IsAutomatonOf}
@@ -17,7 +17,7 @@ use Rattle.glob_automaton.specs.Sets.{IsLive, SameSet}
 use Rattle.names.specs.declared.record.Record.{Record}
 use Rattle.profile_questions.specs.declared.comparison.Records.{Records}
 use Rattle.profile_questions.specs.Names.{AreLeastHits, AreRepresentatives, CompiledValue, IsAlike}
-use Rattle.profile_questions.specs.inner.Comparing.{IsComparison, compared}
+use Rattle.profile_questions.specs.inner.Comparisons.{IsComparison, compared}
 use Rattle.profile_questions.proofs.LeastNames.{name_bytes}
 
 at_index : (rules : List RuleValue) (n : ℕ) (rule : RuleValue) → IsRuleAt rules n rule → slice_get rules (n - 1) ≡ Some rule

@@ -5,7 +5,7 @@ use Rattle.rule_globs.specs.Glob.{Takes}
 use Rattle.rule_globs.specs.Rules.{RuleValue, pattern}
 use Rattle.rule_globs.specs.Verdict.{IsRuleAt}
 use Rattle.rule_profile.specs.declared.profile.Span.{Span}
-use Rattle.automata.specs.Automata.{Automaton}
+use Rattle.automaton_rows.specs.Automata.{Automaton}
 use Rattle.automaton_search.specs.Order.{IsLess, IsAtMost}
 use Rattle.glob_automaton.specs.Least.{IsLeastRecord}
 use Rattle.profile_questions.specs.declared.comparison.Records.{Records}
@@ -24,7 +24,7 @@ pub record ComparisonValue : Type 0 where
   -- the representatives
   pub names : List (List ℕ)
 
--- each of the rules takes both names, or neither
+-- each of the rules matches both names, or neither
 abbrev pub IsAlike : List RuleValue → List ℕ → List ℕ → Type 0
 IsAlike rules one other =
     (n : ℕ) (rule : RuleValue) → IsRuleAt rules n rule → Takes (pattern rule) one ↔ Takes (pattern rule) other

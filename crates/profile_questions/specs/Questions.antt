@@ -46,7 +46,7 @@ found_name None = None
 found_name (Some name) = Some name.items
 
 -- A rule that stands for its pattern where this is asked: something is, and the rule allows all of it. Alone it allows this of the
--- names that the pattern takes, and of no other (the law `pattern_rules_allow_what_they_take`).
+-- names that the pattern matches, and of no other (the law `pattern_rules_allow_what_they_take`).
 pub record IsPatternRule (rule : RuleValue) (ask : Perms) : Type 0 where
   pub allows : rule.kind ≡ Allow
   pub asked : (p : Permission) × IsTrue (has ask p)

@@ -1,2 +1,2 @@
 pub mod Marks
-pub mod Comparing
+pub mod Comparisons

@@ -27,7 +27,7 @@ pub struct Comparison<'a> {
 
 impl<'a> Model for Comparison<'a> {
     ghost use Rattle.profile_questions.specs.Names.{ComparisonValue};
-    ghost use Rattle.profile_questions.specs.inner.Comparing.{IsComparison, compared};
+    ghost use Rattle.profile_questions.specs.inner.Comparisons.{IsComparison, compared};
 
     ghost Value = { ComparisonValue };
 

@@ -21,7 +21,7 @@ pub fn alike_names_have_the_same_hits()
         Hits rules kind p one n ↔ Hits rules kind p other n }
 {}
 
-/// A rule that stands for its pattern allows what is asked of exactly the names that the pattern takes.
+/// A rule that stands for its pattern allows what is asked of exactly the names that the pattern matches.
 pub fn pattern_rules_allow_what_they_take()
     ensures { (rule : RuleValue) (ask : Perms) (name : List ℕ) → IsPatternRule rule ask →
         IsVerdict (rule ∷ []) name ask Allowed ↔ Takes (pattern rule) name }

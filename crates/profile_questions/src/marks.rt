@@ -3,7 +3,7 @@ ghost use Rattle.std.specs.Prelude.{◌≡◌, ◌<◌, ◌++◌, ◌∷◌, [],
 ghost use Rattle.profile_questions.specs.inner.Marks.{AreMarked, all_marked};
 
 use crate::answer::Answer;
-use automata::Dfa;
+use automaton_rows::Dfa;
 use automaton_search::States;
 use names::NoMemory;
 use std::alloc::Global;

@@ -5,7 +5,7 @@ ghost use Rattle.glob_automaton.specs.Sets.{AreMoreThan};
 ghost use Rattle.rule_profile.specs.Profile.{profile_value};
 ghost use Rattle.rule_profile.specs.RuleSpans.{profile_spans};
 
-use automata::Dfa;
+use automaton_rows::Dfa;
 use glob_automaton::{CompileFault, compile};
 use rule_profile::Profile;
 use std::alloc::Global;

@@ -1,5 +1,5 @@
 pub mod Prefixes
-pub mod Storing
-pub mod Keeping
-pub mod Sending
+pub mod StoreLookUps
+pub mod KeptRule
+pub mod ThreadSafety
 pub mod NewsRead

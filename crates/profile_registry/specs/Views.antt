@@ -31,8 +31,8 @@ IsUnanswered before now name =
 abbrev pub having_learned : List Deed → Reading → Reading
 having_learned published before = record { seen = published; entries = 0; refused = before.refused; learned = published }
 
--- With a publisher at hand each refusal is counted, and there are these: no place was free for a note, and nothing was learned; or
--- the reader learned what is published, and wasn't answered then, or saw more than this publisher had published.
+-- With a publisher held exclusively each refusal is counted, and there are these: no place was free for a note, and nothing was
+-- learned; or the reader learned what is published, and wasn't answered then, or saw more than this publisher had published.
 abbrev pub IsUnansweredWith : List Deed → Reading → Reading → List ℕ → Type 0
 IsUnansweredWith published before now name =
     (now.refused ≡ before.refused + 1)

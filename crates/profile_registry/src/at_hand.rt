@@ -1,4 +1,4 @@
-//! Reading where the publisher is at hand.
+//! Reading where the publisher is held exclusively.
 ghost use Rattle.std.specs.Prelude.{◌≡◌, ◌+◌, IfOk, OnOk, OnErr, length};
 ghost use Rattle.std.specs.Option.{option_map};
 ghost use Rattle.mediation.specs.Deeds.{policy_after};

@@ -4,7 +4,7 @@ ghost use Rattle.std.specs.Borrow.{ftrue};
 
 use std::marker::{Model, PhantomData};
 
-/// A count. It takes no memory: only contracts read it.
+/// A count. It needs no memory: only contracts read it.
 #[derive(Drop)]
 pub(crate) struct Refusals {
     marker: PhantomData<u8>,

@@ -1,6 +1,6 @@
 //! Cases: a title, a text, and the commands that read it.
 use crate::command::run_command;
-use crate::ending::Ending;
+use crate::ends::Ending;
 use crate::expand::expanded;
 use crate::show::show_ending;
 use std::alloc::Global;
@@ -9,7 +9,7 @@ use std::io::Write;
 use std::sync::Wait;
 use std::thread::Threads;
 
-/// Shows each case of a file; what stands before the first one is about the file.
+/// Shows each case of a file; what comes before the first one is about the file.
 pub(crate) fn show_cases<H: Threads + Wait + Sync, W: Write>(
     rt: &H,
     alloc: Global,

@@ -1,12 +1,12 @@
 //! Commands, and what they do with a text.
-use crate::ending::Ending;
+use crate::ends::Ending;
 use crate::expand::expanded;
 use named_texts::{GivenText, GivenTexts};
 use std::alloc::{AllocError, Global};
 use std::io;
 use std::sync::Wait;
 use std::thread::Threads;
-use trace_line::{LineFault, command_line};
+use trace_arguments::{LineFault, command_line};
 use trace_program::{run_plain, run_words};
 
 /// Runs a command on a text: each part on what the part before it wrote, until one fails.
@@ -26,7 +26,7 @@ pub(crate) fn run_command<H: Threads + Wait + Sync>(
     Ok(ending)
 }
 
-/// The words of a command: what stands between blanks, or between double quotes.
+/// The words of a command: what is between blanks, or between double quotes.
 fn words_of(alloc: Global, command: &str) -> Result<Vec<&str>, AllocError> {
     let mut words = Vec::new(alloc);
     let mut left = command.trim_start();
@@ -61,7 +61,7 @@ fn run_part<H: Threads + Wait + Sync>(
     }
 }
 
-/// The number that a word tells, or 0.
+/// The number that a word says, or 0.
 fn number(words: &[&str], at: usize) -> usize {
     match words.get(at) {
         Some(word) => word.parse().unwrap_or(0),
@@ -140,7 +140,7 @@ fn set_byte(alloc: Global, place: usize, byte: usize, input: &[u8]) -> io::Resul
     Ok(ending)
 }
 
-/// So many bytes of the input.
+/// The first `count` bytes of the input, or all if there are fewer.
 fn first_bytes(alloc: Global, count: usize, input: &[u8]) -> io::Result<Ending> {
     let kept = input.get(..count).unwrap_or(input);
     Ok(Ending::of_answers(alloc, kept)?)

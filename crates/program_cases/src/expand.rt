@@ -15,7 +15,7 @@ pub(crate) fn expanded(alloc: Global, text: &str) -> Result<Vec<u8>, AllocError>
     Ok(bytes)
 }
 
-/// Puts in place what stands after the last `<<`, at its `>>`.
+/// Puts in place what comes after the last `<<`, at its `>>`.
 fn close(alloc: Global, bytes: &mut Vec<u8>) -> Result<(), AllocError> {
     let Some(at) = bytes.windows(2).rposition(|two| two == b"<<".as_slice()) else {
         return bytes.extend_from_slice(b">>");

@@ -1,5 +1,5 @@
 //! Endings as the transcript has them.
-use crate::ending::Ending;
+use crate::ends::Ending;
 use std::alloc::{AllocError, Global};
 use std::io;
 use std::io::Write;

@@ -1,12 +1,12 @@
 //! Scripts on both engines of `run`: on a keeper, a publisher and a session, and in plain memory. Both write the same bytes.
-use crate::running::{Ending, Failing, Pieces, run, run_on_pieces};
+use crate::runs::{Ending, Failing, Pieces, run, run_on_pieces};
 use std::alloc::Global;
 use std::io::{BufRead, BufReader, ErrorKind};
 use std::process::Abort;
 use std::sync::Wait;
 use std::test::Fail;
 use std::thread::Threads;
-use storm_parts::{NumberedPath, Random};
+use test_parts::{NumberedPath, Random};
 use trace_program::run_plain;
 
 // Few entries, so that a full tree refuses some changes.
@@ -38,14 +38,6 @@ fn expect_alike(rt: &(impl Abort + Threads + Wait + Sync), alloc: Global, script
     in_memory.answers.len()
 }
 
-/// Draws one of some texts.
-fn pick<'a>(random: &mut Random, texts: &[&'a str]) -> &'a str {
-    if texts.is_empty() {
-        return "";
-    }
-    texts[random.below(texts.len())]
-}
-
 /// The text of a path of one or two components.
 fn path(alloc: Global, random: &mut Random) -> Result<String, Fail> {
     let path = NumberedPath::new(1 + random.below(11));
@@ -65,10 +57,10 @@ const PROFILES: [&str; 5] = [
 fn command(alloc: Global, random: &mut Random) -> Result<String, Fail> {
     let one = path(alloc, random)?;
     let other = path(alloc, random)?;
-    let name = pick(random, &["p", "p", "q"]);
-    let ask = pick(random, &["r", "w", "rw", "rwk", "m", "rl"]);
-    let text = pick(random, &["a", "/b", "../a/b", "..", "c/d"]);
-    let profile = pick(random, &PROFILES);
+    let name = random.pick(&["p", "p", "q"]);
+    let ask = random.pick(&["r", "w", "rw", "rwk", "m", "rl"]);
+    let text = random.pick(&["a", "/b", "../a/b", "..", "c/d"]);
+    let profile = random.pick(&PROFILES);
     Ok(match random.below(20) {
         0..2 => format!(in alloc; "mkdir {one}\n")?,
         2..4 => format!(in alloc; "create {one}\n")?,

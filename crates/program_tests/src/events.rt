@@ -1,5 +1,5 @@
 //! Scripts of events over streams that fail.
-use crate::running::{Pieces, run_on_pieces};
+use crate::runs::{Pieces, run_on_pieces};
 use named_texts::GivenTexts;
 use std::alloc::Global;
 use std::io;

@@ -1,5 +1,5 @@
 //! Scripts with expectations over streams that fail.
-use crate::running::{Ending, Failing, Pieces, run_on_pieces, run_within};
+use crate::runs::{Ending, Failing, Pieces, run_on_pieces, run_within};
 use std::alloc::Global;
 use std::io::ErrorKind;
 use std::sync::Wait;

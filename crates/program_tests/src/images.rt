@@ -1,5 +1,5 @@
 //! Images over streams that fail.
-use crate::running::{
+use crate::runs::{
     Ending, Failing, PASSWD, Pieces, expect_read_faults, expect_unread, run, run_into_failing,
     run_on_pieces, run_within,
 };
@@ -59,7 +59,7 @@ fn images_that_cannot_be_read(rt: HostRuntime) -> Result<(), Fail> {
     expect_read_faults(&rt, rt.alloc(), &["aa-trace", "match", "r", "/x"], &rows)
 }
 
-/// Asserts what was written of an image whose stream takes N calls.
+/// Asserts what was written of an image whose stream accepts `calls` writes.
 fn expect_front(
     rt: &(impl Abort + Threads + Wait + Sync),
     alloc: Global,
@@ -76,7 +76,7 @@ fn expect_front(
     );
 }
 
-/// An image that can't be written whole: a front part of it stands.
+/// An image that can't be written whole: a front part of it remains.
 #[test]
 fn images_that_cannot_be_written(rt: HostRuntime) {
     let image = image_of(&rt, rt.alloc(), PASSWD);
@@ -93,7 +93,7 @@ const PIECE: usize = 3;
 /// More calls than it takes to write an answer and to flush it.
 const CALLS: usize = 20;
 
-/// Asserts what a command that reads an image writes to a stream that takes N calls: a front of its answer, until all of it is
+/// Asserts what a command that reads an image writes to a stream that accepts N calls: a front of its answer, until all of it is
 /// written and flushed.
 fn expect_answer_cut(
     rt: &(impl Abort + Threads + Wait + Sync),

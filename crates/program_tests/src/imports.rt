@@ -1,5 +1,5 @@
 //! Imports over streams that fail, and one with a long account.
-use crate::running::{Failing, PASSWD, Pieces, run, run_into_failing, run_on_pieces, run_within};
+use crate::runs::{Failing, PASSWD, Pieces, run, run_into_failing, run_on_pieces, run_within};
 use std::alloc::{AllocError, Global};
 use std::io::ErrorKind;
 use std::test::Fail;
@@ -22,7 +22,7 @@ fn imports_that_are_cut_off(rt: HostRuntime) {
     );
 }
 
-/// The profile stands where only its account couldn't be written, or not all of it.
+/// The profile is written where only its account couldn't be, or not all of it.
 #[test]
 fn accounts_that_are_cut_off(rt: HostRuntime) {
     let alloc = rt.alloc();

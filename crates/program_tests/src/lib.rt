@@ -13,11 +13,11 @@ mod images;
 #[cfg(test)]
 mod imports;
 #[cfg(test)]
-mod judging;
+mod judgment;
 #[cfg(test)]
 mod questions;
 #[cfg(test)]
-mod running;
+mod runs;
 #[cfg(test)]
 mod scripts;
 #[cfg(test)]

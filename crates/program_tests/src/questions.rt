@@ -1,5 +1,5 @@
 //! Profiles that are compared, of which words name the files.
-use crate::running::run;
+use crate::runs::run;
 use std::alloc::Global;
 use std::process::Abort;
 use std::sync::Wait;

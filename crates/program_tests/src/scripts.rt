@@ -1,7 +1,7 @@
 //! Scripts on a bench that has no memory for anything new, and over streams that fail.
 ghost use Rattle.std.specs.Prelude.{[]};
 
-use crate::running::{Ending, Failing, Pieces};
+use crate::runs::{Ending, Failing, Pieces};
 use directory_tree::Change;
 use matcher::MakeFault;
 use mediation::{Answer, Bench, LinkAnswer};

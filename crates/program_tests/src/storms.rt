@@ -1,12 +1,12 @@
 //! Storms whose line can't be written.
-use crate::running::{Failing, run_within};
+use crate::runs::{Failing, run_within};
 use std::alloc::Global;
 use std::process::Abort;
 use std::sync::Wait;
 use std::thread::Threads;
 use trace_report::Status;
 
-/// How a storm ends whose answers can be written to so often.
+/// How a storm ends whose output accepts `calls` writes.
 fn expect_cut(
     rt: &(impl Abort + Threads + Wait + Sync),
     alloc: Global,

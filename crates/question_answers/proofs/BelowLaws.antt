@@ -14,9 +14,9 @@ use Rattle.rule_globs.specs.Tokens.{Token}
 use Rattle.rule_globs.specs.Verdict.{IsVerdict}
 use Rattle.question_answers.specs.Below.{IsLeastName, is_given, rules_below}
 use Rattle.question_answers.specs.declared.least.Wanted.{Wanted}
-use Rattle.question_answers.specs.inner.Wanting.{IsWantedOf, wanted_of}
+use Rattle.question_answers.specs.inner.Wants.{IsWantedOf, wanted_of}
 
--- a rule that stands for its pattern allows what is asked of exactly the names that the pattern takes
+-- a rule that stands for its pattern allows what is asked of exactly the names that the pattern matches
 abbrev pub PatternLaw : Type 0
 PatternLaw = (rule : RuleValue) (ask : Perms) (name : List ℕ) → IsPatternRule rule ask →
     IsVerdict (rule ∷ []) name ask Allowed ↔ Takes (pattern rule) name

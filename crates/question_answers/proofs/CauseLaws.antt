@@ -30,7 +30,7 @@ use Rattle.question_answers.specs.declared.cause.Cause.TheVariants.{Allowed, Den
 use Rattle.question_answers.specs.declared.cause.Causes.{Causes}
 use Rattle.question_answers.specs.declared.least.Wanted.{Wanted}
 use Rattle.question_answers.specs.inner.Causes.{AreCauses, AreTold, HasCauses, cause_of, causes_at, reason_of}
-use Rattle.question_answers.specs.inner.Wanting.{wanted_of}
+use Rattle.question_answers.specs.inner.Wants.{wanted_of}
 use Rattle.question_answers.proofs.BelowLaws.{PatternLaw, found_is_wanted}
 
 -- ---- causes are reasons

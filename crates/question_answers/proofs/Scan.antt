@@ -11,7 +11,7 @@ use Rattle.question_answers.specs.LeastNames.{AreLeastNames, listed}
 use Rattle.question_answers.specs.declared.cause.Causes.{Causes}
 use Rattle.question_answers.specs.declared.least.Wanted.{Wanted}
 use Rattle.question_answers.specs.inner.Causes.{AreNoted, HasCauses, HasNoted, IsIn}
-use Rattle.question_answers.specs.inner.Wanting.{wanted_of}
+use Rattle.question_answers.specs.inner.Wants.{wanted_of}
 use Rattle.question_answers.proofs.BelowLaws.{PatternLaw}
 use Rattle.question_answers.proofs.CauseLaws.{OneReason, causes_by_hits, represented}
 use Rattle.question_answers.proofs.Noted.{noted_as}

@@ -26,7 +26,7 @@ use Rattle.question_answers.specs.declared.quantifier.Witnesses.TheVariants.{Eac
 use Rattle.question_answers.specs.declared.side.Side.{Side}
 use Rattle.question_answers.specs.declared.side.Side.TheVariants.{New, Old}
 use Rattle.question_answers.specs.inner.Causes.{HasCauses, reason_of}
-use Rattle.question_answers.specs.inner.Wanting.{IsWantedOf, alone_by, wanted_by}
+use Rattle.question_answers.specs.inner.Wants.{IsWantedOf, alone_by, wanted_by}
 use Rattle.question_answers.proofs.CauseLaws.{back_and_there, cause_by}
 use Rattle.question_answers.proofs.Passes.{same_names}
 

@@ -7,11 +7,11 @@ use Rattle.rule_globs.specs.Glob.{Takes}
 use Rattle.rule_globs.specs.Rules.{RuleValue}
 use Rattle.rule_globs.specs.Tokens.{Token, pattern_of}
 
--- the path takes the name
+-- the path matches the name
 abbrev pub IsTaken : List Token → List ℕ → Type 0
 IsTaken path name = IsName name × Takes (pattern_of path) name
 
--- a name, and one that the path takes if there is one
+-- a name, and one that the path matches if there is one
 abbrev pub IsBelow : Option (List Token) → List ℕ → Type 0
 IsBelow None name = IsName name
 IsBelow (Some path) name = IsTaken path name

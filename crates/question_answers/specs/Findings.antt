@@ -1,4 +1,4 @@
--- What is found among the names that a path takes.
+-- What is found among the names that a path matches.
 use Rattle.std.specs.Prelude.{ℕ, List, IsTrue}
 use Rattle.names.specs.Permissions.{has}
 use Rattle.names.specs.declared.kind.RuleKind.TheVariants.{Allow}
@@ -10,8 +10,8 @@ use Rattle.rule_globs.specs.Tokens.{Token}
 use Rattle.rule_globs.specs.Verdict.{Hits, IsLeast, IsVerdict}
 use Rattle.question_answers.specs.Below.{IsTaken}
 use Rattle.question_answers.specs.LeastNames.{AreLeast, AreLeastNames, listed}
-use Rattle.question_answers.specs.declared.finding.Finding as declared
-use Rattle.question_answers.specs.declared.finding.Finding.TheVariants as kept
+use Rattle.question_answers.specs.declared.search.Finding as declared
+use Rattle.question_answers.specs.declared.search.Finding.TheVariants as kept
 use Rattle.question_answers.specs.declared.quantifier.Quantifier.{Quantifier}
 use Rattle.question_answers.specs.declared.quantifier.Quantifier.TheVariants.{Any, All}
 use Rattle.question_answers.specs.declared.quantifier.Witnesses.TheVariants.{EachRule, Least}
@@ -40,7 +40,7 @@ AreWitnesses All rules path ask names = AreLeast (IsWanted All rules path ask) n
 
 -- what is found
 pub data Finding : Type 0 where
-  -- no name is taken
+  -- no name is matched
   no_name : Finding
   -- those that are listed, none if none is wanted
   found : List (List ℕ) → Finding

@@ -1,2 +1,2 @@
-pub mod Wanting
+pub mod Wants
 pub mod Causes

@@ -4,10 +4,10 @@ ghost use Rattle.rule_globs.specs.Tokens.{Token};
 ghost use Rattle.question_answers.specs.Alone.{AreAlone};
 ghost use Rattle.question_answers.specs.Below.{is_given, rules_below};
 ghost use Rattle.question_answers.specs.LeastNames.{listed};
-ghost use Rattle.question_answers.specs.inner.Wanting.{alone_by};
+ghost use Rattle.question_answers.specs.inner.Wants.{alone_by};
 
 use crate::least::{Wanted, least_alone};
-use crate::passing::least_by_causes;
+use crate::pass::least_by_causes;
 use crate::quantifier::Witnesses;
 use crate::side::Side;
 use names::{NoMemory, Permission, Perms};
@@ -15,7 +15,7 @@ use profile_questions::{Answer, Comparison};
 use std::alloc::Global;
 
 /// The names that this one of two profiles alone allows a permission: the least, or in ascending order the least for each two rules
-/// that decide. Of all names, or, if these are restricted, of those that the third list, the rule of a path, takes.
+/// that decide. Of all names, or, if these are restricted, of those that the third list, the rule of a path, matches.
 pub fn differences(
     alloc: Global,
     comparison: &Comparison<'_>,

@@ -7,9 +7,9 @@ ghost use Rattle.profile_questions.specs.declared.answer.Answer.TheVariants as a
 ghost use Rattle.rule_globs.specs.Tokens.{Token};
 ghost use Rattle.question_answers.specs.Below.{IsBelow, IsLeastName, is_given, rules_below};
 ghost use Rattle.question_answers.specs.LeastNames.{AreLeast, listed, names_of};
-ghost use Rattle.question_answers.specs.inner.Wanting.{IsWantedOf, wanted_of};
+ghost use Rattle.question_answers.specs.inner.Wants.{IsWantedOf, wanted_of};
 
-use crate::passing::keep;
+use crate::pass::keep;
 use names::{NoMemory, Permission, Perms};
 use profile_questions::{Answer, Answers, Comparison, pattern_rules_allow_what_they_take};
 use std::alloc::Global;
@@ -30,7 +30,7 @@ impl Wanted {
 }
 
 // The least name of which two lists of rules say what is wanted: of all names, or, if these are restricted, of those that the third
-// list, the rule of a path, takes.
+// list, the rule of a path, matches.
 fn least(
     alloc: Global,
     comparison: &Comparison<'_>,
@@ -69,7 +69,7 @@ fn list_of(alloc: Global, found: Option<Vec<u8>>) -> Result<Vec<Vec<u8>>, NoMemo
     Ok(names)
 }
 
-/// Whether there is a name that the question is about: if names are restricted, one that the third list, the rule of a path, takes.
+/// Whether there is a name that the question is about: if names are restricted, one that the third list, the rule of a path, matches.
 pub fn some_name(
     alloc: Global,
     comparison: &Comparison<'_>,
@@ -92,7 +92,7 @@ pub(crate) fn answers(wanted: Wanted, restricted: bool) -> Answers
     }
 }
 
-// That the rule of a path takes a name.
+// That the rule of a path matches a name.
 fn taken() -> Answer
     ensures { result ≡ answer.Allowed (only Read) }
 {

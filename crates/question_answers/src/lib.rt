@@ -6,17 +6,17 @@
 
 mod alone;
 mod cause;
-mod finding;
 mod laws;
 mod least;
-mod noting;
-mod passing;
+mod notes;
+mod pass;
 mod quantifier;
+mod search;
 mod side;
 
 pub use alone::differences;
-pub use finding::{Finding, find};
 pub use laws::{least_names_are_one_list, least_of_all_comes_first};
 pub use least::some_name;
 pub use quantifier::{Quantifier, Witnesses};
+pub use search::{Finding, find};
 pub use side::Side;

@@ -9,7 +9,7 @@ pub enum Witnesses {
     EachRule,
 }
 
-/// Which of the names that a pattern takes are to be allowed what is asked.
+/// Which of the names that a pattern matches are to be allowed what is asked.
 #[derive(Clone, Copy, Debug, PartialEq, Eq)]
 pub enum Quantifier {
     /// Some name: the least one is found, or the least one for each rule that is the first to allow something that is asked.

@@ -5,7 +5,7 @@ use std::test::Fail;
 use trace_questions::{Quantifier, Report, Witnesses, differ, search};
 use trace_report::{Format, Status};
 
-// What a command wrote, and its status.
+/// What a command wrote, and its status.
 #[derive(Drop)]
 pub(crate) struct Ending {
     pub(crate) status: Status,
@@ -43,8 +43,8 @@ pub(crate) fn search_in_memory(alloc: Global, row: Row<'_>) -> Ending {
     }
 }
 
-// Whether just this was written: as an answer, or as a fault.
-fn expect(rt: &impl Abort, ending: &Ending, status: Status, text: &[u8]) {
+/// Expects that just this was written: as an answer, or as a fault.
+pub(crate) fn expect(rt: &impl Abort, ending: &Ending, status: Status, text: &[u8]) {
     assert!(rt; ending.status == status);
     let answered = matches!(status, Status::Done | Status::Unmet);
     let (written, empty) = if answered {

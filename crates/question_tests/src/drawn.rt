@@ -8,7 +8,7 @@ use rule_reader::read;
 use std::alloc::Global;
 use std::process::Abort;
 use std::test::Fail;
-use storm_parts::Random;
+use test_parts::Random;
 use trace_questions::{Quantifier, Witnesses};
 use trace_report::Status;
 
@@ -25,18 +25,11 @@ const MOST_BYTES: usize = 5;
 // How many pairs of profiles a test compares.
 const PAIRS: u64 = 250;
 
-fn pick<'a>(random: &mut Random, texts: &[&'a str]) -> &'a str {
-    if texts.is_empty() {
-        return "";
-    }
-    texts[random.below(texts.len())]
-}
-
 // A path of one to three pieces.
 fn draw_path(alloc: Global, random: &mut Random) -> Result<String, Fail> {
-    let first = pick(random, &PIECES);
-    let second = pick(random, &PIECES);
-    let third = pick(random, &PIECES);
+    let first = random.pick(&PIECES);
+    let second = random.pick(&PIECES);
+    let third = random.pick(&PIECES);
     Ok(match random.below(3) {
         0 => format!(in alloc; "/{first}")?,
         1 => format!(in alloc; "/{first}{second}")?,
@@ -50,7 +43,7 @@ fn draw_profile(alloc: Global, random: &mut Random) -> Result<Vec<u8>, Fail> {
     for _ in 0..1 + random.below(4) {
         let deny = if random.below(4) == 0 { "deny " } else { "" };
         let path = draw_path(alloc, random)?;
-        let perms = pick(random, &PERMS);
+        let perms = random.pick(&PERMS);
         let rule = format!(in alloc; "  {deny}{path} {perms},\n")?;
         text.extend_from_slice(rule.as_bytes())?;
     }
@@ -77,7 +70,7 @@ impl Drawn {
     }
 }
 
-// The profile whose one rule allows to read what a pattern takes.
+// The profile whose one rule allows to read what a pattern matches.
 fn reader_of(alloc: Global, pattern: &str) -> Result<Drawn, Fail> {
     let text = format!(in alloc; "profile p {{\n  {pattern} r,\n}}\n")?.into_bytes();
     let profile = read(alloc, &text)?;
@@ -96,7 +89,7 @@ struct Asked {
 
 impl Asked {
     fn new(alloc: Global, random: &mut Random, quantifier: Quantifier) -> Result<Asked, Fail> {
-        let letters = pick(random, &PERMS);
+        let letters = random.pick(&PERMS);
         let pattern = draw_path(alloc, random)?;
         let taken = reader_of(alloc, &pattern)?;
         Ok(Asked {

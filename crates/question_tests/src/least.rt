@@ -1,14 +1,10 @@
 //! The least names that profiles answer as is wanted, each worked out by hand.
 use crate::rules::compiled;
-use names::Perms;
 use profile_questions::{Answer, Answers, Comparison};
 use std::alloc::Global;
 use std::process::Abort;
 use std::test::Fail;
-
-fn perms(letters: &[u8]) -> Result<Perms, Fail> {
-    Ok(Perms::from_letters(letters).ok_or("letters")?)
-}
+use test_parts::perms;
 
 // The rules of three profiles, what is wanted of each, and the least name.
 #[derive(Clone, Copy)]

@@ -1,21 +1,21 @@
-//! Tests of questions about whole profiles.
+//! Tests of questions about whole profiles, of commands that ask them, and of answers in JSON.
 #![tactic(auto)]
 
+#[cfg(test)]
+mod answers;
 #[cfg(test)]
 mod commands;
 #[cfg(test)]
 mod drawn;
 #[cfg(test)]
-mod influence;
+mod json_commands;
 #[cfg(test)]
 mod least;
 #[cfg(test)]
-mod linting;
+mod lint;
 #[cfg(test)]
 mod representatives;
 #[cfg(test)]
 mod rules;
 #[cfg(test)]
 mod short_names;
-#[cfg(test)]
-mod stand_ins;

@@ -24,7 +24,7 @@ fn allowing(record: &Record) -> (u16, u16) {
     )
 }
 
-// Names are of four kinds: `/`, `/a`, `/b`, and those that no rule takes and none goes on to take.
+// Names are of four kinds: `/`, `/a`, `/b`, and those that no rule matches, whatever follows them.
 #[test]
 fn names_of_two_rules(rt: HostRuntime) -> Result<(), Fail> {
     let alloc = rt.alloc();

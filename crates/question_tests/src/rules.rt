@@ -4,8 +4,8 @@ use rule_reader::{Profile, read};
 use std::alloc::Global;
 use std::test::Fail;
 
-/// The profile of the rules of a text.
-pub(crate) fn profile(alloc: Global, rules: &[u8]) -> Result<Profile, Fail> {
+// The profile of the rules of a text.
+fn profile(alloc: Global, rules: &[u8]) -> Result<Profile, Fail> {
     let mut text = Vec::from_slice(alloc, b"profile p {\n")?;
     text.extend_from_slice(rules)?;
     text.extend_from_slice(b"\n}\n")?;

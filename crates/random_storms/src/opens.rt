@@ -1,12 +1,12 @@
 //! Opens of random paths in threads, by several profiles, concurrently with random changes of the tree and of the policy.
-mod answering;
-mod changing;
+mod answers;
+mod changes;
 mod fault;
-mod noting;
-mod opening;
+mod notes;
 mod plan;
-mod publishing;
+mod publication;
 mod scene;
+mod sessions;
 mod storm;
 mod tally;
 mod threads;

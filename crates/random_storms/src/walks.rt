@@ -2,10 +2,10 @@
 mod answers;
 mod ours;
 mod plan;
-mod reaching;
+mod reach;
 mod replay;
 mod storm;
-mod walking;
+mod walker;
 
 use self::plan::{Plan, planned};
 use self::storm::{Outcome, storm};

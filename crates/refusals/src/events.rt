@@ -5,9 +5,9 @@ use interleaving_core::{Answer, Core, Event, EventMachine, StepFault};
 use justification::justify;
 use matcher::PolicyChange;
 use names::{Errno, NoMemory, Permission, Perms};
-use refusal_parts::{Call, Difference, Hash, How, Stop, again, expect, expect_ok, path, shared_of};
 use std::alloc::{AllocError, Global};
 use std::io::Print;
+use storm_parts::{Call, Difference, Hash, How, Stop, again, expect, expect_ok, path, shared_of};
 
 /// Room for the entries of the tree.
 const ROOM: usize = 4;

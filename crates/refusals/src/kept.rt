@@ -1,11 +1,11 @@
 //! Verdicts kept in a small cache, and looked for.
 use names::{LONGEST_PATH, NoMemory, Permission, Perms, Verdict};
 use path_lookup::NAME_ROOM;
-use refusal_parts::{Call, Difference, How, Stop, again, expect, expect_ok};
 use std::alloc::Global;
 use std::fmt;
 use std::io::Print;
 use std::num::NonZeroUsize;
+use storm_parts::{Call, Difference, How, Stop, again, expect, expect_ok};
 use verdict_cache::{Question, VerdictCache};
 
 /// The paths of the questions: more than the cache has room for.

@@ -21,9 +21,9 @@ use crate::opens::show_opens;
 use crate::policy::show_policy;
 use crate::texts::show_texts;
 use crate::trees::show_trees;
-use refusal_parts::Stop;
 use std::io;
 use std::io::Print;
+use storm_parts::Stop;
 
 fn main(rt: HostRuntime) -> io::Result<()> {
     let alloc = rt.alloc();

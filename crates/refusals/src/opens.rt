@@ -1,4 +1,4 @@
-//! Files opened and links made by a session, concurrently with the keeper and with it at hand, before and after a change.
+//! Files opened and links made by a session, concurrently with the keeper and with it held exclusively, before and after a change.
 ghost use Rattle.std.specs.Prelude.{◌≡◌};
 ghost use mathlib.Core.List.{IsPrefix};
 
@@ -16,10 +16,10 @@ use mediation::{Answer as AnswerAtHand, LinkAnswer};
 use names::{Errno, Perms};
 use path_session::{Session, Unanswered};
 use profile_registry::Publisher;
-use refusal_parts::{Call, Difference, Hash, How, Stop, expect, expect_ok, path, shared_of};
 use std::alloc::Global;
 use std::io::Print;
 use std::sync::Wait;
+use storm_parts::{Call, Difference, Hash, How, Stop, expect, expect_ok, path, shared_of};
 
 /// What is opened: a path, and the letters of the permissions.
 const OPENED: [(&str, &[u8]); 9] = [
@@ -69,7 +69,7 @@ fn show_session<R: Print + Wait>(
     show_opened(rt, &mut session, &mut keeper, publisher)
 }
 
-// Each open has one answer, whoever is at hand.
+// Each open has one answer, whether keeper and publisher are held or not.
 fn show_opened<R: Print>(
     rt: &R,
     session: &mut Session,
@@ -114,7 +114,7 @@ fn open(
     Ok(answer)
 }
 
-// An answer when keeper and publisher are at hand, as one of any open.
+// An answer when keeper and publisher are held exclusively, as one of any open.
 fn answer_of(answer: AnswerAtHand) -> Answer {
     match answer {
         AnswerAtHand::Judged {
@@ -139,7 +139,7 @@ fn answer_of(answer: AnswerAtHand) -> Answer {
     }
 }
 
-// The links are made by turns with the keeper alone at hand, and with the publisher, too.
+// The links are made in turn with the keeper alone, and with the publisher, too.
 fn show_linked<R: Print>(
     rt: &R,
     session: &mut Session,
@@ -184,7 +184,7 @@ fn link(
     }
 }
 
-// The same with the publisher at hand.
+// The same with the publisher, too.
 fn link_with_both(
     session: &mut Session,
     keeper: &mut Keeper,

@@ -4,11 +4,11 @@ ghost use Rattle.std.specs.Prelude.{◌≡◌, IfOk};
 use matcher::AnyProfile;
 use names::NoMemory;
 use profile_registry::{NoSeat, PolicyReader, Publisher};
-use refusal_parts::{Call, Difference, How, Stop, again, expect, expect_ok, shared_of};
 use std::alloc::Global;
 use std::fmt;
 use std::io::Print;
 use std::sync::{Arc, Wait};
+use storm_parts::{Call, Difference, How, Stop, again, expect, expect_ok, shared_of};
 
 /// The names that profiles are published under.
 const NAMES: [&[u8]; 3] = [b"p", b"q", b"a longer name of a profile"];
@@ -85,7 +85,7 @@ fn seen(publisher: &Publisher, reader: &mut PolicyReader) -> Result<Sight, Diffe
     })
 }
 
-// How many states the profile under a name has, and the policy's version. No memory is taken.
+// How many states the profile under a name has, and the policy's version. Nothing is allocated.
 fn get(reader: &mut PolicyReader, name: &[u8]) -> Result<(Option<u32>, u64), Difference> {
     let (profile, version) = expect_ok(Call::Get, reader.get(name))?;
     match profile {

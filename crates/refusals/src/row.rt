@@ -5,11 +5,11 @@ ghost use Rattle.tree_row.specs.OpeningRow.{opening_row};
 use crate::trees::{Tree, seen_by};
 use directory_tree::{Change, root_alone_is_well_formed};
 use names::Errno;
-use refusal_parts::{Call, Difference, Hash, How, again, expect};
 use row_plan::{change_row, plan};
 use row_rule::Cell;
 use std::alloc::{AllocError, Global};
 use std::marker::Model;
+use storm_parts::{Call, Difference, Hash, How, again, expect};
 use tree_row::{KnownRow, MOST_ENTRIES, RowLook, opening_row_encodes_root};
 
 /// A row that encodes a tree, and the number of the next node.

@@ -6,11 +6,11 @@ ghost use Rattle.tables.specs.Tables.{table_value};
 use glob_automaton::{CompileFault, Dfa, compile};
 use matcher::LoadedProfile;
 use names::NoMemory;
-use refusal_parts::{Call, Difference, Hash, How, Stop, again, compiled_of, expect, read_text};
 use rule_reader::{Profile, ReadFault, read};
 use rule_writer::write;
 use std::alloc::Global;
 use std::io::Print;
+use storm_parts::{Call, Difference, Hash, How, Stop, again, compiled_of, expect, read_text};
 use table_image::{pack, pack_chained};
 use tables::{ImageFault, RawTable, from_bytes, to_bytes, to_bytes_v1};
 

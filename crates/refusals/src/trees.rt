@@ -7,9 +7,9 @@ use directory_tree::{Change, Last};
 use names::{Errno, NoMemory};
 use path_lookup::{Look, NAME_ROOM, Scratch, WalkFault, reach};
 use plain_tree::PlainTree;
-use refusal_parts::{Call, Difference, Hash, How, Stop, again, expect, path, tree_changes};
 use std::alloc::Global;
 use std::io::Print;
+use storm_parts::{Call, Difference, Hash, How, Stop, again, expect, path, tree_changes};
 
 /// Room for the entries of the trees.
 const ROOM: usize = 8;

@@ -1,20 +1,20 @@
 //! Changes of the tree that threads share, and walks over it, in one thread and in several.
 mod attempts;
-mod drawing;
+mod drawn_names;
+mod draws;
 mod lines;
-mod naming;
 mod numbered;
 mod plan;
 mod rates;
 mod report;
-mod timing;
+mod timer;
 mod tree;
 mod trips;
 
 use self::plan::planned;
 use self::report::run_all;
 use self::tree::filled;
-use crate::growing::FEWEST_ENTRIES;
+use crate::trees::FEWEST_ENTRIES;
 use std::alloc::Global;
 use std::io;
 use std::io::Print;

@@ -4,9 +4,9 @@
 
 mod cache;
 mod changes;
-mod growing;
 mod numbers;
 mod row;
+mod trees;
 
 pub use cache::time_cache;
 pub use row::time_row;

@@ -8,7 +8,7 @@ mod work;
 use self::plan::planned;
 use self::tree::Tree;
 use self::work::{Work, work_of};
-use crate::growing::grow;
+use crate::trees::grow;
 use std::alloc::{AllocError, Global};
 use std::io;
 use std::io::Print;

@@ -4,7 +4,7 @@ use Rattle.std.proofs.Common.{subst, sym, arith, add-one, drop-cons}
 use Rattle.std.specs.Prelude.{bit_and}
 use Rattle.std.proofs.Math.ListN.{drop_of_length-le}
 use Rattle.std.proofs.lemmas.Nat.{and_mask}
-use Rattle.row_index.specs.Hashing.{hash_on, home}
+use Rattle.row_index.specs.Hashes.{hash_on, home}
 
 pub home_within : (size d : ℕ) (c : List ℕ) → 0 < size → home size d c < size
 unfolding home

@@ -1,6 +1,6 @@
 pub mod Rounds
 pub mod Sizes
-pub mod Keeping
+pub mod Upkeep
 pub mod Vacancies
 pub mod Edited
 pub mod Cells

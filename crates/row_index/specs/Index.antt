@@ -29,7 +29,7 @@ Ends size word home steps = (steps ≡ size) ⊎ (word (around size (home + step
 abbrev pub HaveHomes : ℕ → (ℕ → Type 0) → (ℕ → ℕ) → Type 0
 HaveHomes size used home = (x : ℕ) → used x → (0 < x) × (home x < size)
 
--- one slot more is used, or one fewer
+-- one more slot is used, or one fewer
 pub record IsOneMore (used used' : ℕ → Type 0) (s : ℕ) : Type 0 where
   pub past_root : 0 < s
   pub new : ¬ (used s)

@@ -4,11 +4,11 @@
 //! To be believed are about 70 lines of definitions in `specs/`.
 #![tactic(auto)]
 
-mod hashing;
+mod hash;
 mod laws;
 mod places;
 
-pub use hashing::home;
+pub use hash::home;
 pub use laws::{
     Slots, edits_have_one_result, edits_leave_no_deleted_word, edits_stay_in_index,
     homes_of_used_slots_count, index_lengths_are_least_powers, insertions_keep_index,

@@ -21,7 +21,7 @@ use Rattle.directory_tree.specs.Walk.Spot.{Root, Held}
 use Rattle.directory_tree.specs.Apply.{Changed, and_then, make_at, make, is_file, link_to, link_from, link, unlink_at, unlink, rmdir_at}
 use Rattle.directory_tree.specs.Apply.{rmdir, moved, goes_below, onto_kind, rename_onto, rename_from, rename, Target, target_from, is_dots}
 use Rattle.directory_tree.specs.Apply.{tested, target_of, directory_target, other_target, directory_at, parent_of, at_one, at_two}
-use Rattle.directory_tree.specs.Apply.{max_text, text_of, apply}
+use Rattle.directory_tree.specs.Apply.{longest_link_text, text_of, apply}
 
 -- if it is refused, that isn't for memory
 abbrev Other : {X : Type 0} → Result X Errno → Type 0
@@ -83,7 +83,7 @@ text_other : (text : List ℕ) → Other (text_of text)
 text_other text =
     either (not (is_filled text)) (Err ENOENT) _ (λ q. cc q)
     (either (list_any (λ b. b == 0) text) (Err EINVAL) _ (λ q. cc q)
-    (either (nat_lt max_text (length text) || has_long_component text) (Err ENAMETOOLONG) (Ok text) (λ q. cc q) tt))
+    (either (nat_lt longest_link_text (length text) || has_long_component text) (Err ENAMETOOLONG) (Ok text) (λ q. cc q) tt))
 
 one_other : (t : Tree) (target : Result Target Errno) (act : ℕ → List ℕ → Changed) → Other target →
     ((d : ℕ) (c : List ℕ) → Other (act d c)) → Other (at_one t target act)

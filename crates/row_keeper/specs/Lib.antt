@@ -1,2 +1,2 @@
-pub mod Keeping
+pub mod KeeperSteps
 pub mod inner

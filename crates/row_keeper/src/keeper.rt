@@ -4,41 +4,37 @@ ghost use Rattle.std.specs.Option.{option_map};
 ghost use Rattle.row_rule.specs.Row.{count_of};
 ghost use Rattle.row_rule.specs.Steps.{at_rest};
 ghost use Rattle.tree_row.specs.OpeningRow.{opening_row};
-ghost use Rattle.row_keeper.specs.Keeping.{IsOpened, MayOpen, Accepts, IsSet, MaySet, IsClosed, MayClose, IsTested};
+ghost use Rattle.row_keeper.specs.KeeperSteps.{IsOpened, MayOpen, Accepts, IsSet, MaySet, IsClosed, MayClose, IsTested};
 ghost use Rattle.row_keeper.specs.inner.Planned.{IsPlanned};
 
-use crate::history::History;
 use crate::open_change::OpenChange;
 use crate::refusal::NotNow;
-use directory_tree::Change;
-use event_core::StepFault;
-use names::{Errno, NoMemory};
+use directory_tree::{Change, TreeHistory};
+use event_machine::StepFault;
+use names::{Errno, MOST_CHANGES, NoMemory};
 use row_plan::{change_has_one_plan, next_after, plan};
 use row_rule::Cell;
 use std::alloc::Global;
 use std::marker::Model;
 use tree_row::{KnownRow, MOST_ENTRIES, RowLook};
 
-/// The most changes that are counted: 2^60 - 1.
-const MOST_CHANGES: u64 = 1152921504606846975;
-
 /// A row of words and its keeper, in plain memory. Its view is the pair of the row's capacity and what the keeper knows: the
 /// changes that were made, the current cells, and the open change with the cells that are left to set.
 #[derive(Drop)]
-pub struct Keeper {
+pub struct SteppedKeeper {
     alloc: Global,
     look: RowLook<KnownRow>,
     // The number of the next node, once the open change is closed.
     next: u64,
     // How many changes were made, and which.
     version: u64,
-    history: History,
+    history: TreeHistory,
     // The change that is being made, and how many of its cells are set.
     opened: Option<OpenChange>,
     set: usize,
 }
 
-impl Model for Keeper {
+impl Model for SteppedKeeper {
     ghost use Rattle.std.specs.Prelude.{ℕ};
     ghost use Rattle.row_rule.specs.declared.view.KeeperView.{KeeperView};
 
@@ -51,21 +47,21 @@ impl Model for Keeper {
     ghost invariant = { λ k. IsKept k.look.cells.0 k.look.cells.1 k.next k.version k.history.events k.opened k.set };
 }
 
-impl Keeper {
-    /// The row of a tree that is only the root, with room for `capacity` entries. All its memory is taken here.
-    pub fn new(alloc: Global, capacity: usize) -> Result<Keeper, NoMemory>
+impl SteppedKeeper {
+    /// The row of a tree that is only the root, with room for `capacity` entries. All its memory is allocated here.
+    pub fn new(alloc: Global, capacity: usize) -> Result<SteppedKeeper, NoMemory>
         requires { capacity ≤ MOST_ENTRIES }
         ensures { IfOk result (λ keeper. keeper ≡ (capacity, at_rest [] (opening_row capacity))) }
     {
         let Ok(row) = KnownRow::new(alloc, capacity) else {
             return Err(NoMemory);
         };
-        Ok(Keeper {
+        Ok(SteppedKeeper {
             alloc,
             look: RowLook::new(row),
             next: 2,
             version: 0,
-            history: History::new(),
+            history: TreeHistory::new(),
             opened: None,
             set: 0,
         })
@@ -184,7 +180,7 @@ impl Keeper {
     }
 
     /// The changes that were made, only for contracts.
-    pub fn history(&self) -> &History
+    pub fn history(&self) -> &TreeHistory
         ensures { result.now.events ≡ self.now.1.history }
     {
         &self.history

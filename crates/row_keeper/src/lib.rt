@@ -5,11 +5,10 @@
 //! private contracts and proofs.
 #![tactic(auto)]
 
-mod history;
 mod keeper;
 mod open_change;
 mod refusal;
 
-pub use history::History;
-pub use keeper::Keeper;
+pub use directory_tree::TreeHistory as History;
+pub use keeper::SteppedKeeper;
 pub use refusal::NotNow;

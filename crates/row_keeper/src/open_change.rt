@@ -1,4 +1,4 @@
-use crate::history::History;
+use directory_tree::TreeHistory;
 use row_rule::Cell;
 
 /// A change that is being made in the row.
@@ -7,5 +7,5 @@ pub(crate) struct OpenChange {
     /// The cells that it sets.
     pub plan: Vec<Cell>,
     /// The changes that are made once it is closed; it is the last of them.
-    pub target: History,
+    pub target: TreeHistory,
 }

@@ -1,4 +1,4 @@
-use event_core::StepFault;
+use event_machine::StepFault;
 
 /// The step isn't legal in the keeper's current state; nothing was changed.
 #[derive(Clone, Copy, Debug, PartialEq, Eq)]
@@ -6,7 +6,7 @@ pub struct NotNow;
 
 impl From<NotNow> for StepFault {
     ghost use Rattle.std.specs.Prelude.{◌≡◌};
-    ghost use Rattle.event_core.specs.declared.event.StepFault.TheVariants as fault;
+    ghost use Rattle.event_machine.specs.declared.event.StepFault.TheVariants as fault;
 
     ghost from_gives = { λ _ given. given ≡ fault.NotNow };
 

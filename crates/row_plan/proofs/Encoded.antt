@@ -3,16 +3,16 @@ use Rattle.std.proofs.Common.{◌≡◌, ◌≢◌, ℕ, ◌+◌, ◌<◌, ◌�
 use Rattle.std.specs.Prelude.{IfSome, true}
 use mathlib.Core.Logic.{inl, inr, dite}
 use native.Mathlib.Decide.{ℕ_discrete}
-use Rattle.names.specs.declared.paths.TheConstants.{LONGEST_COMPONENT}
+use Rattle.names.specs.declared.limits.TheConstants.{LONGEST_COMPONENT}
 use Rattle.directory_tree.specs.declared.node.Kind.TheVariants as kind
 use Rattle.directory_tree.specs.declared.node.NodeKind.{NodeKind}
 use Rattle.directory_tree.specs.Tree.{Tree, find, is_empty}
 use Rattle.directory_tree.specs.Spots.{shape_of, node_at, kind_at, child_of}
-use Rattle.directory_tree.specs.Apply.{entry, with_entry, dropped, max_text}
+use Rattle.directory_tree.specs.Apply.{entry, with_entry, dropped, longest_link_text}
 use Rattle.path_lookup.specs.World.{World}
 use Rattle.row_index.specs.Places.{index_length}
-use Rattle.row_index.specs.Hashing.{home}
-use Rattle.row_index.proofs.Keeping.{reused}
+use Rattle.row_index.specs.Hashes.{home}
+use Rattle.row_index.proofs.Upkeep.{reused}
 use Rattle.row_index.specs.Edits.{index_at}
 use Rattle.directory_tree.proofs.Found.{found_at}
 use Rattle.tree_row.specs.Slots.{Slot, slot_at, IsUsed}
@@ -25,11 +25,11 @@ use Rattle.row_plan.specs.Leaves.{text_in, new_slot, with_slot, AddsToIndex, Rem
 use Rattle.row_plan.specs.inner.Rows.{SetsSlot, FreesSlot, MovesSlot, FreesAny, KeepsOthers, SlotsEncode, moved_slot}
 use Rattle.row_plan.specs.inner.Entries.{AddsEntry}
 use Rattle.row_plan.specs.inner.Planned.{HasVacancy, Finds, FindsAny, NamesUsed}
-use Rattle.row_plan.proofs.Settling.{other_stays, other_kind}
-use Rattle.row_plan.proofs.Making.{code_used}
+use Rattle.row_plan.proofs.SettledSlots.{other_stays, other_kind}
+use Rattle.row_plan.proofs.NewEntries.{code_used}
 use Rattle.row_plan.proofs.Encoding.{in_range_all}
-use Rattle.row_plan.proofs.Enacting as enacting
-use Rattle.row_plan.proofs.Indexing as indexing
+use Rattle.row_plan.proofs.Enactment as enacting
+use Rattle.row_plan.proofs.IndexedRows as indexing
 
 module _ (capacity : ℕ) (row : List ℕ) (w : World) (enc : EncodesWorld capacity row w) where
   abbrev n : ℕ
@@ -83,7 +83,7 @@ module _ (capacity : ℕ) (row : List ℕ) (w : World) (enc : EncodesWorld capac
   -- a new entry; `number` is the number of its node as the plan has it
   pub made : (node_kind : NodeKind) (number node next p : ℕ) (c : List ℕ) (plan : List Cell) → p < n →
       find t.entries (node_at (w.named p)) c ≡ None → shape_of (kind_at (w.named p)) ≡ kind.Directory → length c ≤ LONGEST_COMPONENT →
-      length (text_in node_kind) ≤ max_text → number ≡ node → AddsEntry capacity row (new_slot node_kind number p c) plan →
+      length (text_in node_kind) ≤ longest_link_text → number ≡ node → AddsEntry capacity row (new_slot node_kind number p c) plan →
       Encodes capacity (write row plan) (with_entry t (entry (node_at (w.named p)) c node node_kind) next)
   made node_kind number node next p c plan within none directory short short_text is planned =
       let adds : AddsEntry capacity row (new_slot node_kind node p c) plan =
@@ -199,7 +199,7 @@ module _ (capacity : ℕ) (row : List ℕ) (w : World) (enc : EncodesWorld capac
         let r = in_range_all n f t enc.tree.slots x is.within is.used in
         other_stays first s between moves.moves.others x other
         (subst (λ (z : Slot). length z.component ≤ LONGEST_COMPONENT) (sym same) r.0)
-        (subst (λ (z : Slot). length z.text ≤ max_text) (sym same) r.1) ∙ same
+        (subst (λ (z : Slot). length z.text ≤ longest_link_text) (sym same) r.1) ∙ same
 
     here : slot_at between s ≡ moved_slot (f s) p name
     here = moves.moves.here ∙ ap (λ (z : Slot). moved_slot z p name) (first_stays replaced first moves.frees s apart)

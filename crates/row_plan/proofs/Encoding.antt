@@ -2,26 +2,26 @@
 use Rattle.std.proofs.Common.{◌≡◌, ℕ, ◌+◌, ◌<◌, ◌≤◌, ◌≢◌, List, length, Some, None, sym, refl, ◌∙◌, subst, arith}
 use mathlib.Core.Logic.{dite}
 use native.Mathlib.Decide.{ℕ_discrete}
-use Rattle.names.specs.declared.paths.TheConstants.{LONGEST_COMPONENT}
+use Rattle.names.specs.declared.limits.TheConstants.{LONGEST_COMPONENT}
 use Rattle.directory_tree.specs.declared.node.NodeKind.{NodeKind}
 use Rattle.directory_tree.specs.Tree.{Tree, find}
-use Rattle.directory_tree.specs.Apply.{entry, with_entry, dropped, placed, max_text}
+use Rattle.directory_tree.specs.Apply.{entry, with_entry, dropped, placed, longest_link_text}
 use Rattle.tree_row.specs.Slots.{Slot, slot_at, entry_at, IsUsed, IsFree, IsDirectorySlot}
 use Rattle.tree_row.specs.Rows.{EncodesSlots}
 use Rattle.row_plan.specs.Leaves.{text_in, new_slot}
 use Rattle.row_plan.specs.inner.Rows.{KeepsOthers, SetsSlot, FreesSlot, SlotsEncode, moved_slot}
-use Rattle.row_plan.proofs.Settling.{other_stays, other_kind}
-use Rattle.row_plan.proofs.Making.{made}
-use Rattle.row_plan.proofs.Removing.{removed}
-use Rattle.row_plan.proofs.Placing.{put}
+use Rattle.row_plan.proofs.SettledSlots.{other_stays, other_kind}
+use Rattle.row_plan.proofs.NewEntries.{made}
+use Rattle.row_plan.proofs.Removals.{removed}
+use Rattle.row_plan.proofs.Placement.{put}
 
 -- the lengths of every slot that isn't free are within the limits
 pub in_range_all : (n : ℕ) (f : ℕ → Slot) (t : Tree) → EncodesSlots n f t → (x : ℕ) → x < n → (f x).kind ≢ 0 →
-    (length (f x).component ≤ LONGEST_COMPONENT) × (length (f x).text ≤ max_text)
+    (length (f x).component ≤ LONGEST_COMPONENT) × (length (f x).text ≤ longest_link_text)
 in_range_all n f t enc x within filled = dite (ℕ_discrete x 0)
-    (λ e. subst (λ (z : ℕ). (length (f z).component ≤ LONGEST_COMPONENT) × (length (f z).text ≤ max_text)) (sym e) (
+    (λ e. subst (λ (z : ℕ). (length (f z).component ≤ LONGEST_COMPONENT) × (length (f z).text ≤ longest_link_text)) (sym e) (
       subst (λ (z : List ℕ). length z ≤ LONGEST_COMPONENT) (sym enc.root.component) (omega arith),
-      subst (λ (z : List ℕ). length z ≤ max_text) (sym enc.root.text) (omega arith),
+      subst (λ (z : List ℕ). length z ≤ longest_link_text) (sym enc.root.text) (omega arith),
     ))
     (λ other. let r = enc.in_range x record { past_root = omega arith; within = within; used = filled } in (r.component, r.text))
 
@@ -43,7 +43,7 @@ module _ (capacity : ℕ) (row : List ℕ) (t : Tree) (enc : SlotsEncode capacit
       other_stays row s after others x other r.0 r.1
 
   pub encodes_filled : (kind : NodeKind) (node next s p : ℕ) (c : List ℕ) → find t.entries (f p).node c ≡ None → IsFree slots f s →
-      IsDirectorySlot slots f p → length c ≤ LONGEST_COMPONENT → length (text_in kind) ≤ max_text
+      IsDirectorySlot slots f p → length c ≤ LONGEST_COMPONENT → length (text_in kind) ≤ longest_link_text
       → SetsSlot row s (new_slot kind node p c) after → SlotsEncode capacity after (with_entry t (entry (f p).node c node kind) next)
   encodes_filled kind node next s p c none free directory short short_text sets = record {
     long = sets.long ∙ enc.long;

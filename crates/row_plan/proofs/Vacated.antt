@@ -11,7 +11,7 @@ use Rattle.row_rule.specs.Row.{write}
 use Rattle.row_plan.specs.Plan.{IsLean}
 use Rattle.row_plan.specs.inner.Rows.{Drafts}
 use Rattle.row_plan.specs.inner.Words.{IsWordOf, NamesIn}
-use Rattle.row_plan.proofs.Dropping.{length_drafted}
+use Rattle.row_plan.proofs.Drops.{length_drafted}
 
 -- `final` is what is left of the row that a plan makes, once the place `p` is vacated, where at most this many words from `q` on may
 -- still move back

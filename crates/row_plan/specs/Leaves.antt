@@ -8,7 +8,7 @@ use Rattle.change_checks.specs.declared.act.Act.{Act}
 use Rattle.change_checks.specs.declared.act.Act.TheVariants as act
 use Rattle.change_checks.specs.Act.{kind_of_new}
 use Rattle.row_index.specs.Places.{index_length}
-use Rattle.row_index.specs.Hashing.{home}
+use Rattle.row_index.specs.Hashes.{home}
 use Rattle.row_index.specs.Edits.{Inserts, Removes}
 use Rattle.tree_row.specs.Slots.{Slot, slot_at, packed}
 use Rattle.tree_row.specs.Rows.{index_base, homes_in}

@@ -1,8 +1,8 @@
 //! The cells that an act sets.
 ghost use Rattle.std.specs.Prelude.{◌≡◌, ◌<◌, ◌≤◌, ◌+◌, ℕ, List, IfOk, length};
 ghost use Rattle.std.specs.Option.{option_map};
-ghost use Rattle.names.specs.declared.paths.TheConstants.{LONGEST_COMPONENT};
-ghost use Rattle.directory_tree.specs.Apply.{max_text};
+ghost use Rattle.names.specs.declared.limits.TheConstants.{LONGEST_COMPONENT};
+ghost use Rattle.directory_tree.specs.Apply.{longest_link_text};
 ghost use Rattle.change_checks.specs.Act.{kind_of_new, Fits, FitsNode};
 ghost use Rattle.change_checks.specs.declared.act.Act.TheVariants as act;
 ghost use Rattle.tree_row.specs.Slots.{slot_at};
@@ -105,7 +105,7 @@ fn plan_entry<C: Cells>(
     requires room { HasRoom (C.capacity_of (C.kept cells.old)) (C.whole (C.kept cells.old)) }
     requires parent { entry.now.parent < C.capacity_of (C.kept cells.old) + 1 }
     requires fits { length entry.now.component.now ≤ LONGEST_COMPONENT }
-    requires text_fits { length entry.now.text.now ≤ max_text }
+    requires text_fits { length entry.now.text.now ≤ longest_link_text }
     ensures kept { C.kept cells.new ≡ C.kept cells.old }
     ensures ok { IfOk result (λ plan. PlansEntry (C.capacity_of (C.kept cells.old)) (C.whole (C.kept cells.old)) (slot_of entry.now)
         plan.items) }

@@ -8,7 +8,7 @@ ghost use Rattle.row_plan.specs.inner.Acts.{IsTreeRead};
 ghost use Rattle.row_plan.specs.inner.Planned.{search_for, IsInRow, MayAdd, MayRemove, PlansAddition, PlansRemoval};
 
 use crate::draft::{planned_word, set_word};
-use crate::vacating::vacate;
+use crate::vacancy::vacate;
 use names::NoMemory;
 use row_index::{DELETED_WORD, FREE_WORD, home, next_place, word_of};
 use row_rule::Cell;

@@ -11,12 +11,12 @@ mod draft;
 mod index;
 mod laws;
 mod memory;
-mod planning;
+mod planner;
 mod slot;
 mod tree_rows;
-mod vacating;
+mod vacancy;
 
 pub use laws::change_has_one_plan;
 pub use memory::{change_row, set_cells};
-pub use planning::{next_after, plan};
+pub use planner::{next_after, plan};
 pub use tree_rows::TreeRow;

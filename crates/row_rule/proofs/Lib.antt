@@ -1,5 +1,5 @@
 pub mod Lists
-pub mod Writing
+pub mod Writes
 pub mod Rule
 pub mod WalkerSteps
 pub mod KeeperSteps

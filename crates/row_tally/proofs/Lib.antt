@@ -1,6 +1,6 @@
 pub mod WordBits
 pub mod Summaries
 pub mod Entries
-pub mod Noting
+pub mod Notes
 pub mod Directories
-pub mod Opening
+pub mod InitialTally

@@ -1,7 +1,7 @@
 //! A tally of a row of words: it follows each cell of the row that is set, and so knows the first free slot, and which directories
 //! have entries, without reading the slots.
 //!
-//! Whoever changes a row sets its cells one after another, and passes each place and word to the tally too:
+//! Code that changes a row sets its cells one after another, and passes each place and word to the tally too:
 //!
 //! ```text
 //! let mut tally = RowTally::new(alloc, capacity)?;

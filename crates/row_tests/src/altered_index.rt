@@ -1,12 +1,13 @@
 //! Words of the index that are altered, one at a time and all at once. Whatever they are, each walk, name and look-up of a child
 //! terminates, and what it finds is there: an altered index may hide an entry or be torn, and nothing else.
-use crate::rows::{path, row_of};
+use crate::rows::row_of;
 use crate::torn::{SMALL, set};
 use directory_tree::Last;
 use names::Errno;
 use path_lookup::{NAME_ROOM, Scratch, Torn, WalkFault, name_of, name_of_place, resolve};
 use std::process::Abort;
 use std::test::Fail;
+use test_parts::path;
 use tree_row::{KnownRow, RowLook, find_child, index_of};
 
 /// The row of `SMALL` has room for this many entries, and its index this many words.

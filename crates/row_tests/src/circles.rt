@@ -1,11 +1,12 @@
 //! Directories in a circle, each the parent of another one: no tree has them, but such words may be read while the row changes.
-use crate::lying::{LyingCells, reach_lying};
-use crate::rows::{Slot, add_to_index, path, row_of};
+use crate::lies::{LyingCells, reach_lying};
+use crate::rows::{Slot, add_to_index, row_of};
 use directory_tree::Last;
 use names::Errno;
 use path_lookup::{Scratch, WalkFault, resolve};
 use std::alloc::Global;
 use std::test::Fail;
+use test_parts::path;
 use tree_row::{DIRECTORY, LINK, PARENT, RowLook, SLOT_LENGTH};
 
 // Three directories, each in the one before, and a link in the first.

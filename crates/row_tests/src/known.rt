@@ -1,10 +1,11 @@
 //! Walks over words that become known one after the other.
-use crate::rows::{SLOTS, path, row_of};
+use crate::rows::{SLOTS, row_of};
 use directory_tree::Last;
 use names::Errno;
 use path_lookup::Scratch;
 use std::alloc::Global;
 use std::test::Fail;
+use test_parts::path;
 use tree_row::{
     KnownRow, KnownWords, Stop, name_and_read, name_known, name_place_and_read, name_place_known,
     walk_and_read, walk_known,

@@ -1,6 +1,6 @@
 //! Lengths that no component and no text has, read once an entry is found.
-use crate::lying::{LyingCells, reach_lying};
-use crate::rows::{Slot, add_to_index, path, row_of};
+use crate::lies::{LyingCells, reach_lying};
+use crate::rows::{Slot, add_to_index, row_of};
 use crate::torn::{SMALL, set};
 use directory_tree::Last;
 use names::Errno;
@@ -8,6 +8,7 @@ use path_lookup::{Scratch, WalkFault};
 use std::alloc::Global;
 use std::process::Abort;
 use std::test::Fail;
+use test_parts::path;
 use tree_row::{DIRECTORY, LENGTHS, LINK, RowLook, SLOT_LENGTH, TEXT_FACTOR, reach};
 
 // How long the name is, or why there is none.

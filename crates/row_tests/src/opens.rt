@@ -1,12 +1,12 @@
 //! The walk of one open, which continues from the words that it has read.
 use crate::rows::{SLOTS, Slot, row_of};
 use names::{Errno, Perms};
+use open_session::{Lack, Outcome, WalkWords, reach_on};
 use path_lookup::Scratch;
 use row_rule::Cell;
 use std::alloc::Global;
 use std::test::Fail;
 use tree_row::KnownRow;
-use walk_words::{Lack, Outcome, WalkWords, reach_on};
 
 // A path, how many words an open of it needs, and the name and the node of the file that it reaches. In addition to what the walk
 // and the name need, the word of the node is read, except for the root.

@@ -1,5 +1,4 @@
 //! Rows made of tables of entries. Their index is made here, without `row_index`.
-use names::Path;
 use std::alloc::Global;
 use std::test::Fail;
 use tree_row::{
@@ -69,10 +68,6 @@ pub(crate) const SLOTS: [Slot<'static>; 6] = [
         text: b"",
     },
 ];
-
-pub(crate) fn path(text: &[u8]) -> Result<Path<'_>, Fail> {
-    Ok(Path::check(text).ok().ok_or("a path")?)
-}
 
 /// The row of these slots, with room for `capacity` entries. Its index names those that aren't free, added in this order.
 pub(crate) fn row_of(alloc: Global, capacity: usize, slots: &[Slot]) -> Result<KnownRow, Fail> {

@@ -1,9 +1,10 @@
 //! Rows that encode no tree: over any words, walking and naming terminate.
-use crate::rows::{Slot, path, row_of};
+use crate::rows::{Slot, row_of};
 use directory_tree::Last;
 use path_lookup::{Scratch, WalkFault};
 use std::alloc::Global;
 use std::test::Fail;
+use test_parts::path;
 use tree_row::{DIRECTORY, FILE, KnownRow, LINK, RowLook, reach};
 
 pub(crate) const SMALL: [Slot<'static>; 3] = [

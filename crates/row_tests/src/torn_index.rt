@@ -1,11 +1,12 @@
 //! Words of the index that no tree's row has. A search reads each of them at most once, so it ends.
-use crate::rows::{home_place, path, row_of};
+use crate::rows::{home_place, row_of};
 use crate::torn::{SMALL, set};
 use directory_tree::Last;
 use names::Errno;
 use path_lookup::{Scratch, WalkFault, resolve};
 use std::process::Abort;
 use std::test::Fail;
+use test_parts::path;
 use tree_row::{KnownRow, RowLook};
 
 const ABSENT: Result<usize, WalkFault> = Err(WalkFault::Refused(Errno::ENOENT));

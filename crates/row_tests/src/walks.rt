@@ -1,11 +1,12 @@
 //! Walks and names over a row all of whose words are known.
-use crate::rows::{SLOTS, Slot, path, row_of};
+use crate::rows::{SLOTS, Slot, row_of};
 use change_checks::ChangeLook;
 use directory_tree::Last;
 use names::Errno;
 use path_lookup::{Look, Scratch, WalkFault, name_of_place, resolve};
 use std::process::Abort;
 use std::test::Fail;
+use test_parts::path;
 use tree_row::{DIRECTORY, FILE, KnownRow, RowLook, reach};
 
 // A path, whether a link at its end is followed, and the name of what it leads to.
@@ -61,7 +62,7 @@ pub(crate) const WALKS: [Walk<'static>; 16] = [
     (b"/l", Last::Stay, Ok(b"/l")),
     (b"/ring", Last::Stay, Ok(b"/ring")),
     (b"/ring", Last::Follow, Err(Errno::ELOOP)),
-    // One byte more, one less, and another last one.
+    // One more byte, one less, and another last one.
     (b"/a_long_directory_", Last::Follow, Err(Errno::ENOENT)),
     (b"/a_long_director", Last::Follow, Err(Errno::ENOENT)),
     (b"/a_long_directorx", Last::Follow, Err(Errno::ENOENT)),

@@ -51,7 +51,7 @@ module _ (rules : List RuleValue) (name : List ℕ) (p : Permission) where
   reason_so_far i found le h =
       ap₂ reason_by (at_end (hits Deny p name) rules i found.denied le h.0) (at_end (hits Allow p name) rules i found.allowed le h.1)
 
-  -- a rule that doesn't hold the permission or doesn't take the name hits for neither kind
+  -- a rule that doesn't hold the permission or doesn't match the name hits for neither kind
   misses : (kind : RuleKind) (rule : RuleValue) → (IsTrue (holds rule p) → IsTrue (takes (pattern rule) name) → ⊥) →
       hits kind p name rule ≡ false
   misses kind rule never = at (hits kind p name rule) refl
@@ -70,7 +70,7 @@ module _ (rules : List RuleValue) (name : List ℕ) (p : Permission) where
     failed (hits Allow p name) rules i found.allowed h.1 (misses Allow (get_or rules i nothing) never),
   )
 
-  -- a rule that holds the permission and takes the name
+  -- a rule that holds the permission and matches the name
   of_kind : (kind other : RuleKind) (rule : RuleValue) → rule.kind ≡ kind → IsTrue (holds rule p) → IsTrue (takes (pattern rule) name) →
       hits other p name rule ≡ is_kind kind other
   of_kind kind other rule is h t = rw (is, h, t) (at (is_kind kind other))

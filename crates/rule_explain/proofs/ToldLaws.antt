@@ -11,7 +11,7 @@ use Rattle.rule_profile.specs.declared.profile.Rule.{Rule}
 use Rattle.rule_profile.specs.declared.profile.Span.{Span}
 use Rattle.rule_profile.specs.Profile.{RuleValue, rule_value}
 use Rattle.rule_profile.specs.Readable.{is_rule}
-use Rattle.rule_reader.specs.Reading.{rule_at}
+use Rattle.rule_reader.specs.ReadText.{rule_at}
 use Rattle.rule_profile.specs.RuleSpans.{rule_span}
 use Rattle.rule_reader.specs.Spans.{AreReadAgain, IsReadAgain, spans_of}
 use Rattle.rule_writer.specs.Canonical.{rule_text}

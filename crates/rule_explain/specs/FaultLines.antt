@@ -1,5 +1,6 @@
 -- How a refused text's fault is shown: the fault as a sentence, its line, and a caret below the byte.
 use Rattle.std.specs.Prelude.{ℕ, Bool, List, ◌++◌, ◌&&◌, ◌==◌, nat_le, if◌then◌else◌, codes, decimal, length, map, replicate, unwrap_or}
+use Rattle.names.specs.Ascii as ascii
 use Rattle.rule_reader.specs.declared.fault.ReadFault.{ReadFault}
 use Rattle.rule_reader.specs.FaultNumber.{fault_offset}
 use Rattle.rule_reader.specs.FaultText.{fault_text}
@@ -13,7 +14,7 @@ is_printable b = nat_le 32 b && nat_le b 126
 -- A byte as it is shown. Only printable ASCII is, so that a text can't drive the terminal: a tab is one space, and each other byte
 -- is `?`. So a byte takes one column (our choice).
 abbrev pub shown : ℕ → ℕ
-shown b = if b == 9 then 32 else if is_printable b then b else 63
+shown b = if b == ascii.tab then ascii.space else if is_printable b then b else ascii.question_mark
 
 -- `line 3, column 7: permissions are missing at byte 17`
 abbrev pub sentence : Place → ReadFault → List ℕ

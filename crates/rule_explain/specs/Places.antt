@@ -1,10 +1,11 @@
 -- Lines and columns of a text.
 use Rattle.std.specs.Prelude.{ℕ, ◌+◌, Bool, List, ◌==◌, length, take, drop, count_by}
 use Rattle.std.specs.List.{after_last, before_first}
+use Rattle.names.specs.Ascii as ascii
 use Rattle.rule_explain.specs.declared.place.Place.{Place}
 
 abbrev pub is_line_feed : ℕ → Bool
-is_line_feed b = b == 10
+is_line_feed b = b == ascii.line_feed
 
 -- the bytes of a line before the byte at this offset
 abbrev pub front_of_line : List ℕ → ℕ → List ℕ

@@ -1,4 +1,4 @@
--- Why a permission is allowed to a name, or not: the least deny rule that holds it and takes the name, if there is one; otherwise
+-- Why a permission is allowed to a name, or not: the least deny rule that holds it and matches the name, if there is one; otherwise
 -- the least allow rule that does (apparmor.d(5), "Rule Qualifiers").
 use Rattle.std.specs.Prelude.{ℕ, ◌+◌, Bool, true, false, ◌&&◌, List, Option, Some, None, option_map, position}
 use Rattle.names.specs.declared.permissions.Permission.{Permission}
@@ -10,7 +10,7 @@ use Rattle.names.specs.declared.kind.RuleKind.TheVariants.{Allow, Deny}
 use Rattle.rule_explain.specs.declared.reason.Reason.{Reason}
 use Rattle.rule_explain.specs.declared.reason.Reason.TheVariants.{Allowed, Denied, NoRule}
 
--- no rule of this kind holds p and takes the name
+-- no rule of this kind holds p and matches the name
 abbrev pub NoHit : List RuleValue → RuleKind → Permission → List ℕ → Type 0
 NoHit rules kind p name = (n : ℕ) → ¬ (Hits rules kind p name n)
 
@@ -28,7 +28,7 @@ is_kind Deny Deny = true
 is_kind Allow Deny = false
 is_kind Deny Allow = false
 
--- the rule is of this kind, holds p and takes the name
+-- the rule is of this kind, holds p and matches the name
 abbrev pub hits : RuleKind → Permission → List ℕ → RuleValue → Bool
 hits kind p name rule = is_kind rule.kind kind && holds rule p && takes (pattern rule) name
 

@@ -4,7 +4,7 @@ use Rattle.names.specs.declared.permissions.Permission.{Permission}
 use Rattle.rule_globs.specs.Verdict.{IsRuleAt}
 use Rattle.rule_profile.specs.declared.profile.Span.{Span}
 use Rattle.rule_profile.specs.Profile.{RuleValue}
-use Rattle.rule_reader.specs.Reading.{rule_at}
+use Rattle.rule_reader.specs.ReadText.{rule_at}
 use Rattle.rule_reader.specs.Spans.{IsReadAgain, spans_of}
 use Rattle.rule_explain.specs.declared.reason.Reason.{Reason}
 use Rattle.rule_explain.specs.declared.reason.Reason.TheVariants.{Allowed, Denied, NoRule}

@@ -13,7 +13,7 @@ use names::{Permission, Perms, RuleKind};
 use rule_globs::takes_by_cuts;
 use rule_profile::{Profile, Rule};
 
-/// The first deny rule so far, and the first allow rule, that hold a permission and take the name.
+/// The first deny rule so far, and the first allow rule, that hold a permission and match the name.
 #[derive(Clone, Copy)]
 struct FirstHits {
     denied: Option<u16>,
@@ -37,7 +37,7 @@ impl FirstHits {
         allowed: None,
     };
 
-    /// With one more rule that takes the name, by whether it holds the permission.
+    /// With one more rule that matches the name, by whether it holds the permission.
     fn with(self, holds: bool, kind: RuleKind, rule: u16) -> FirstHits
         ensures { result ≡ with_hit self holds kind rule }
     {
@@ -94,7 +94,7 @@ impl Firsts {
         }
     }
 
-    /// With one more rule that takes the name: the permissions that it holds, its kind and its number.
+    /// With one more rule that matches the name: the permissions that it holds, its kind and its number.
     fn with(self, perms: Perms, kind: RuleKind, rule: u16) -> Firsts
         ensures { (p : SomePermission) → hits_of result p ≡ with_hit (hits_of self p) (has perms p) kind rule }
     {
@@ -134,7 +134,7 @@ impl Firsts {
     }
 }
 
-/// Whether a rule holds something that is asked and takes the name.
+/// Whether a rule holds something that is asked and matches the name.
 fn concerns(rule: &Rule, name: &[u8], ask: Perms) -> bool
     ensures { IsTrue result ↔ (Shares ask (held (rule_value rule.now).perms) × IsTrue (takes (pattern (rule_value rule.now)) name.now)) }
 {

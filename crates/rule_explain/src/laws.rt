@@ -4,7 +4,7 @@ ghost use Rattle.names.specs.declared.permissions.Permission.{Permission};
 ghost use Rattle.names.specs.declared.permissions.Perms.{Perms};
 ghost use Rattle.rule_globs.specs.PlainVerdict.{verdict};
 ghost use Rattle.rule_profile.specs.Profile.{RuleValue, ProfileValue};
-ghost use Rattle.rule_reader.specs.Reading.{outcome_of};
+ghost use Rattle.rule_reader.specs.ReadText.{outcome_of};
 ghost use Rattle.rule_explain.specs.Reasons.{reason, IsReason};
 ghost use Rattle.rule_explain.specs.Told.{IsRightlyTold};
 ghost use Rattle.rule_explain.specs.VerdictReasons.{AgreesWithReasons};
@@ -30,7 +30,7 @@ pub fn verdicts_agree_with_reasons()
     one_verdict_is_right();
 }
 
-/// What is said about a permission by the rules of a text is right: the least deny rule that holds it and takes the name, or
+/// What is said about a permission by the rules of a text is right: the least deny rule that holds it and matches the name, or
 /// otherwise the least allow rule. That rule is in the text where it is said to be: from there on it is read again. Its text in the
 /// explanation is read again as that rule, too.
 pub fn explanations_are_right()

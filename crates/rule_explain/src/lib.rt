@@ -4,14 +4,14 @@
 //! The definitions to believe are those in `specs/`.
 #![tactic(auto)]
 
-mod explaining;
+mod explanation;
 mod hits;
 mod laws;
 mod place;
 mod reason;
 mod refusal;
 
-pub use explaining::{explain, reason_lines, reason_text, rule_place};
+pub use explanation::{explain, reason_lines, reason_text, rule_place};
 pub use laws::{explanations_are_right, reasons_are_right, verdicts_agree_with_reasons};
 pub use place::{Place, place_at};
 pub use reason::{Reason, reason_of};

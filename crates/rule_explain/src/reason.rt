@@ -9,7 +9,7 @@ use names::{Permission, RuleKind};
 use rule_globs::takes_by_cuts;
 use rule_profile::{Profile, Rule};
 
-/// Why a permission is allowed to a name or not, by the rules that hold it and take the name. Rules are counted from 1 in the
+/// Why a permission is allowed to a name or not, by the rules that hold it and match the name. Rules are counted from 1 in the
 /// order of the text.
 #[derive(Clone, Copy, Debug, PartialEq, Eq)]
 pub enum Reason {
@@ -28,7 +28,7 @@ fn holds(rule: &Rule, permission: Permission) -> bool
     rule.perms().held().contains(permission)
 }
 
-/// Whether a rule is of this kind, holds the permission and takes the name.
+/// Whether a rule is of this kind, holds the permission and matches the name.
 fn hits(rule: &Rule, kind: RuleKind, permission: Permission, name: &[u8]) -> bool
     ensures { result ≡ hits kind permission name.now (rule_value rule.now) }
 {

@@ -7,7 +7,7 @@ use Rattle.std.proofs.lemmas.List.Folds.{list_all-append}
 use Rattle.std.proofs.lemmas.Bool.{and_parts, and_from, or_cases, or_left, or_right}
 use Rattle.rule_globs.specs.Glob.{Glob, ByteSet, empty, one, run, cat, none, alt, fits, Takes, places, Live}
 
--- some front part of the bytes is in E, and the pattern takes the rest
+-- some front part of the bytes is in E, and the pattern matches the rest
 abbrev pub Behind : (List ℕ → Type 0) → Glob → List ℕ → Type 0
 Behind E g bytes = (front : List ℕ) × (back : List ℕ) × (bytes ≡ front ++ back) × E front × Takes g back
 

@@ -1,4 +1,4 @@
--- Trying each cut finds out whether a pattern takes some bytes; and byte 0 is never taken.
+-- Trying each cut finds out whether a pattern matches some bytes; and byte 0 is never matched.
 use Rattle.std.proofs.Common.{◌≡◌, ◌≢◌, ℕ, ◌<◌, Bool, true, false, ◌&&◌, ◌||◌, ◌↔◌, inl, inr, ⊎_elim, List, [], ◌∷◌, ◌++◌, map, nat_lt}
 use Rattle.std.proofs.Common.{IsTrue, All, refl, sym, ap, ◌∙◌, subst, arith}
 use Rattle.std.specs.List.{list_all, list_any}

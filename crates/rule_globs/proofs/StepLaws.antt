@@ -14,7 +14,7 @@ run_along at set (c ∷ x) y r e h s =
     let both = and_parts (fits set c) (list_all (fits set) x) h in
     take_more at set c r e (x ++ y) both.0 (run_along at set x y r e both.1 s)
 
--- what a pattern takes can be stepped over
+-- what a pattern matches can be stepped over
 over : (g : Glob) (at : ℕ) (x y : List ℕ) (r e : List Left) → Takes g x → Steps r y e → Steps (left at g ∷ r) (x ++ y) e
 over empty at x y r e h s = subst (λ z. Steps (left at empty ∷ r) (z ++ y) e) (sym h) (over_empty at r e y s)
 over (one set) at x y r e h s =

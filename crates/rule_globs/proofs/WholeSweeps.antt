@@ -121,7 +121,7 @@ cut (f ∷ front) back (b ∷ x) c y e =
     let e2 : x ++ (c ∷ y) ≡ front ++ back = cc in
     ⊎_elim (λ h. inl (h.0, h.1, cc (h.2))) (λ h. inr (h.0, h.1, cc (h.2))) (cut front back x c y e2)
 
--- within bytes that a pattern takes, some place is live
+-- within bytes that a pattern matches, some place is live
 pub some_live : (g : Glob) (x : List ℕ) (c : ℕ) (y : List ℕ) → Takes g (x ++ (c ∷ y)) → (p : ℕ) × Live g x p
 some_live empty x c y h = let e : c ∷ y ≡ [] = (both_empty x (c ∷ y) (sym h)).1 in let never : ⊥ = cc (e) in absurd never
 some_live (one set) [] c y h = (0, (refl, refl))
@@ -140,7 +140,7 @@ some_live none x c y h = absurd h
 some_live (alt a b) x c y (inl h) = let live = some_live a x c y h in (live.0, inl live.1)
 some_live (alt a b) x c y (inr h) = let live = some_live b x c y h in (places a + live.0, inr (live.0, refl, live.1))
 
--- where no place is live, and more bytes come, the whole name isn't taken
+-- where no place is live, and more bytes come, the whole name isn't matched
 pub nothing_taken : (g : Glob) (bytes : List ℕ) (i n : ℕ) (live : List Bool) → i < length bytes → places g ≤ n → n ≤ length live →
     Lit IsZero g (0 ∷ take i bytes) 0 live → ((p : ℕ) → p < length (take n live) → get_or (take n live) p false ≡ false) →
     Takes g bytes → ⊥
@@ -156,7 +156,7 @@ nothing_taken g bytes i n live lt room within lit dark h =
     true≢false (sym bit ∙ ap (λ z. get_or live z false) (zero-add some.0) ∙ sym same
     ∙ dark some.0 (omega (arith, below, room, within, length-take n live)))
 
--- the law: a pattern takes the bytes exactly where its end is live after them
+-- the law: a pattern matches the bytes exactly where its end is live after them
 pub end-live : (g : Glob) (x : List ℕ) → Takes g x ↔ LiveOrEnd g x (places g)
 end-live g x = (
   λ h. inr (refl, h),

@@ -1,4 +1,4 @@
--- What a pattern over the bytes of a name is, which lists of bytes it takes as a whole (apparmor.d(5), "Globbing"), and its
+-- What a pattern over the bytes of a name is, which lists of bytes it matches as a whole (apparmor.d(5), "Globbing"), and its
 -- places: the positions at which a match can be.
 pub use Rattle.names.specs.Paths.{is_slash}
 use Rattle.std.specs.Prelude.{◌≡◌, ℕ, ◌+◌, Bool, true, not, ◌&&◌, ◌⊎◌, ◌==◌, List, [], ◌∷◌, ◌++◌, IsTrue, nat_lt, nat_le, if◌then◌else◌}
@@ -60,7 +60,7 @@ pub data Glob : Type 0 where
   -- one or the other
   alt : Glob → Glob → Glob
 
--- The pattern takes the bytes: in parts, each item its part.
+-- The pattern matches the bytes: in parts, each item its part.
 abbrev pub Takes : Glob → List ℕ → Type 0
 Takes empty bytes = bytes ≡ []
 Takes (one set) bytes = (b : ℕ) × (bytes ≡ b ∷ []) × IsTrue (fits set b)

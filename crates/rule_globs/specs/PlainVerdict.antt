@@ -16,7 +16,7 @@ abbrev pub cuts : List ℕ → List (List ℕ × List ℕ)
 cuts [] = ([], []) ∷ []
 cuts (b ∷ bytes) = ([], b ∷ bytes) ∷ map (λ cut. (b ∷ cut.0, cut.1)) (cuts bytes)
 
--- whether the pattern takes the bytes, by trying each cut
+-- whether the pattern matches the bytes, by trying each cut
 abbrev pub takes : Glob → List ℕ → Bool
 takes empty [] = true
 takes empty (b ∷ bytes) = false

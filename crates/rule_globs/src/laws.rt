@@ -11,7 +11,7 @@ ghost use Rattle.rule_globs.specs.Verdict.{IsVerdict, IsAllowed, Hits};
 ghost use Rattle.names.specs.declared.kind.RuleKind.TheVariants.{Allow, Deny};
 ghost use Rattle.names.specs.declared.verdict.Verdict.{Verdict};
 
-/// A pattern takes bytes exactly where its end is live after them.
+/// A pattern matches bytes exactly where its end is live after them.
 pub fn end_is_live()
     ensures { (pattern : Glob) (bytes : List ℕ) →
         Takes pattern bytes ↔ LiveOrEnd pattern bytes (places pattern) }
@@ -34,13 +34,13 @@ pub fn live_places_go_on()
         × Goes pattern (end + 1) (λ q. q ≡ end) (end + (places pattern - r)) (end + (places pattern - p))) }
 {}
 
-/// Trying each way to cut the bytes finds out whether a pattern takes them.
+/// Trying each way to cut the bytes finds out whether a pattern matches them.
 pub fn takes_by_cuts()
     ensures { (pattern : Glob) (bytes : List ℕ) →
         IsTrue (takes pattern bytes) ↔ Takes pattern bytes }
 {}
 
-/// No pattern takes a byte 0.
+/// No pattern matches a byte 0.
 pub fn byte_zero_never()
     ensures { (pattern : Glob) (bytes : List ℕ) →
         Takes pattern bytes → All (λ b. b ≢ 0) bytes }

@@ -20,7 +20,7 @@ module _ (case : Case) (records : Records) where
   abbrev pub IsBefore : ℕ → ℕ → Type 0
   IsBefore k n = (p : Permission) × (index p < k) × (candidate_of p ≡ n) × (n ≢ 0)
 
-  -- and the rule takes the name
+  -- and the rule matches the name
   abbrev pub IsAtBefore : List ℕ → ℕ → ℕ → Type 0
   IsAtBefore name k n = IsBefore k n × Takes (pattern (rule_value case.rule.now)) name
 
@@ -36,7 +36,7 @@ module _ (case : Case) (records : Records) where
     same_place : (p q : Permission) → index p ≡ index q → p ≡ q
     same_place p q e = sym (there p q) ∙ ap (λ z. get_or all_permissions z q) e ∙ there q q
 
-    -- a candidate of one permission more is one of those before it, or that of the permission
+    -- a candidate of one more permission is one of those before it, or that of the permission
     more_cases : (k : ℕ) (q : Permission) → index q ≡ k → (n : ℕ) → IsBefore (k + 1) n →
         IsBefore k n ⊎ ((candidate_of q ≡ n) × (n ≢ 0))
     more_cases k q at n h = ⊎_elim

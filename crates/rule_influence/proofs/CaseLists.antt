@@ -12,7 +12,7 @@ use Rattle.rule_globs.specs.Verdict.{IsRuleAt}
 use Rattle.rule_profile.specs.Rules.{rule_value}
 use Rattle.rule_influence.specs.StandIns.{IsAscending}
 use Rattle.rule_influence.specs.declared.candidates.Case.{Case}
-use Rattle.rule_influence.specs.declared.standing.IdleCase.{IdleCase}
+use Rattle.rule_influence.specs.declared.substitutes.IdleCase.{IdleCase}
 use Rattle.rule_influence.specs.inner.Candidates.{IsAtName, IsAtNameFor, IsCandidate, IsCandidateFor, IsCaseOf, candidate}
 use Rattle.rule_influence.specs.inner.Lists.{AreAdded, AreNotedAt, list_at, numbers_of}
 use Rattle.rule_influence.proofs.HitLaws.{at_place}

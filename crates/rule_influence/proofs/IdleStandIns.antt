@@ -2,7 +2,7 @@
 use Rattle.std.proofs.Common.{◌≡◌, ◌⊎◌, ◌↔◌, inl, inr, ⊎_elim, ℕ, zero, suc, ◌+◌, ◌≤◌, true, List, [], Contains, length}
 use Rattle.std.proofs.Common.{subst, arith}
 use Rattle.std.proofs.lemmas.Bool.{cases_eq}
-use Rattle.glob_automaton.proofs.Ascending.{contains_none, no_members, same_lists}
+use Rattle.glob_automaton.proofs.AscendingLists.{contains_none, no_members, same_lists}
 use Rattle.names.specs.declared.permissions.Permission.{Permission}
 use Rattle.names.specs.declared.kind.RuleKind.{RuleKind}
 use Rattle.names.specs.declared.kind.RuleKind.TheVariants.{Allow, Deny}
@@ -12,7 +12,7 @@ use Rattle.rule_globs.specs.Rules.{RuleValue}
 use Rattle.rule_globs.specs.Verdict.{Hits, IsLeast}
 use Rattle.rule_influence.specs.Influence.{DecidesFor, IsIdle, IsLoneHit}
 use Rattle.rule_influence.specs.StandIns.{AreTheStandIns, IsGreatest, IsStandInAt, IsUpTo, Matters}
-use Rattle.rule_influence.specs.declared.standing.IdleCase.{IdleCase}
+use Rattle.rule_influence.specs.declared.substitutes.IdleCase.{IdleCase}
 use Rattle.rule_influence.proofs.HitLaws.{hits_or_not, lone_decides}
 
 -- a set of numbers of which each is a member or isn't has a least one and, up to a bound, a greatest one

@@ -4,8 +4,8 @@ use Rattle.std.proofs.lemmas.List.{reverse-reverse}
 use Rattle.std.specs.Result.{IsErrAnd}
 use Rattle.rule_globs.specs.Rules.{RuleValue}
 use Rattle.rule_globs.specs.Verdict.{IsRuleAt}
-use Rattle.automata.specs.declared.fault.CompileFault.{CompileFault}
-use Rattle.automata.specs.declared.fault.CompileFault.TheVariants.{TooManyStates, NoMemory}
+use Rattle.automaton_rows.specs.declared.fault.CompileFault.{CompileFault}
+use Rattle.automaton_rows.specs.declared.fault.CompileFault.TheVariants.{TooManyStates, NoMemory}
 use Rattle.profile_questions.specs.declared.fault.QuestionFault.{QuestionFault}
 use Rattle.profile_questions.specs.declared.fault.QuestionFault.TheVariants as searching
 use Rattle.profile_questions.specs.Faults.{IsQuestionFault}

@@ -5,7 +5,7 @@ use Rattle.std.proofs.Common.{slice_get, replicate, sym, ap, ◌∙◌, subst, a
 use Rattle.std.proofs.lemmas.Bool.{cases_lt}
 use Rattle.std.proofs.lemmas.List.{get_or-replicate, length-map, length-replicate}
 use Rattle.std.proofs.lemmas.Option.{get_or_from_slice_get, same_Some, slice_get_within}
-use Rattle.glob_automaton.proofs.Ascending.{contains_none}
+use Rattle.glob_automaton.proofs.AscendingLists.{contains_none}
 use Rattle.glob_automaton.specs.Least.{IsLeastRecord}
 use Rattle.names.specs.declared.permissions.Permission.{Permission}
 use Rattle.names.specs.declared.kind.RuleKind.{RuleKind}
@@ -14,7 +14,7 @@ use Rattle.profile_questions.specs.declared.comparison.Records.{Records}
 use Rattle.profile_questions.specs.Names.{AreLeastHits, AreRepresentatives, ComparisonValue, IsAlike}
 use Rattle.rule_globs.specs.Rules.{RuleValue}
 use Rattle.rule_influence.specs.StandIns.{AreStandIns, IsAscending, IsStandInAt, IsUpTo}
-use Rattle.rule_influence.specs.declared.standing.IdleCase.{IdleCase}
+use Rattle.rule_influence.specs.declared.substitutes.IdleCase.{IdleCase}
 use Rattle.rule_influence.specs.inner.Candidates.{IsCandidateFor}
 use Rattle.rule_influence.specs.inner.Lists.{AreNotedAt, list_at, numbers_of}
 use Rattle.rule_influence.proofs.Scans.{hits_alike, hits_back}

@@ -15,7 +15,7 @@ use Rattle.rule_globs.specs.Rules.{RuleValue, holds, pattern}
 use Rattle.rule_globs.specs.Verdict.{Hits, IsLeast, IsRuleAt}
 use Rattle.glob_automaton.specs.Least.{IsLeastRecord}
 use Rattle.rule_influence.specs.StandIns.{IsGreatest, IsStandInAt, IsUpTo, Matters}
-use Rattle.rule_influence.specs.declared.standing.IdleCase.{IdleCase}
+use Rattle.rule_influence.specs.declared.substitutes.IdleCase.{IdleCase}
 use Rattle.rule_influence.specs.inner.Candidates.{IsAtNameFor, candidate, is_outside, other_end, other_hit, stand_in}
 use Rattle.rule_influence.proofs.LoneHits.{greatest}
 

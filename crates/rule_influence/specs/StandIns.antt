@@ -7,7 +7,7 @@ use Rattle.names.specs.Paths.{IsName}
 use Rattle.names.specs.Permissions.{has}
 use Rattle.rule_globs.specs.Rules.{RuleValue}
 use Rattle.rule_globs.specs.Verdict.{Hits, IsLeast}
-use Rattle.rule_influence.specs.declared.standing.IdleCase.{IdleCase}
+use Rattle.rule_influence.specs.declared.substitutes.IdleCase.{IdleCase}
 
 -- whether p is allowed to the name is up to rules of this kind: to allow rules where no deny rule hits, and to deny rules where some
 -- allow rule hits

@@ -5,7 +5,7 @@ ghost use Rattle.rule_globs.specs.Verdict.{IsRuleAt};
 ghost use Rattle.rule_profile.specs.Profile.{RuleValue, pattern, profile_value, rule_value};
 ghost use Rattle.rule_influence.specs.inner.Candidates.{IsCaseOf, candidate, other_hit, stand_in};
 
-use crate::standing::IdleCase;
+use crate::substitutes::IdleCase;
 use names::{LeastHits, Permission, Perms, RuleKind};
 use profile_questions::Records;
 use rule_profile::{Profile, Rule};
@@ -39,14 +39,14 @@ impl<'a> Case<'a> {
         })
     }
 
-    /// Whether the rule takes the name.
+    /// Whether the rule matches the name.
     pub(crate) fn takes(self, name: &[u8]) -> bool
         ensures { IsTrue result ↔ Takes (pattern (rule_value self.entry.rule.now)) name.now }
     {
         self.rule.path().takes(name)
     }
 
-    /// The number of the rule that stands in for this one at a name with these least hits, if this one takes the name; 0 where none
+    /// The number of the rule that stands in for this one at a name with these least hits, if this one matches the name; 0 where none
     /// does.
     pub(crate) fn candidate(self, records: &Records, permission: Permission) -> u16
         requires { self.count < 65536 }

@@ -3,7 +3,7 @@ ghost use Rattle.std.specs.Prelude.{[], IfErr, IfOk};
 ghost use Rattle.profile_questions.specs.Faults.{IsQuestionFault};
 ghost use Rattle.rule_influence.specs.Influence.{AreDecided};
 
-use crate::noting::{note, nothing_decided};
+use crate::notes::{note, nothing_decided};
 use crate::pair::RulePair;
 use names::Perms;
 use profile_questions::{Comparison, QuestionFault};

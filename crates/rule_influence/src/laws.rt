@@ -11,7 +11,7 @@ ghost use Rattle.rule_globs.specs.Rules.{RuleValue};
 ghost use Rattle.rule_globs.specs.Verdict.{Hits, IsAllowed, IsVerdict};
 ghost use Rattle.rule_influence.specs.Influence.{Decides, DecidesFor, IsAllowedWithout, IsIdle, IsLoneHit};
 ghost use Rattle.rule_influence.specs.StandIns.{AreTheStandIns, IsStandInAt, Matters};
-ghost use Rattle.rule_influence.specs.declared.standing.IdleCase.{IdleCase};
+ghost use Rattle.rule_influence.specs.declared.substitutes.IdleCase.{IdleCase};
 
 /// A rule decides exactly where it is the only one that allows and none denies, or the only one that denies and some rule allows.
 pub fn lone_hits_decide()

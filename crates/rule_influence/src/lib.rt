@@ -9,10 +9,10 @@ mod candidates;
 mod decider;
 mod influence;
 mod laws;
-mod noting;
+mod notes;
 mod numbers;
 mod pair;
-mod standing;
+mod substitutes;
 
 pub use influence::decided;
 pub use laws::{
@@ -21,4 +21,4 @@ pub use laws::{
     reversed_rules_hit,
 };
 pub use pair::RulePair;
-pub use standing::{IdleCase, stand_ins};
+pub use substitutes::{IdleCase, stand_ins};

@@ -9,8 +9,8 @@ use Rattle.names.specs.declared.permissions.Permission.{Permission}
 use Rattle.names.specs.declared.permissions.Permission.TheVariants.{Link}
 use Rattle.names.specs.declared.permissions.Perms.{Perms}
 use Rattle.names.specs.Permissions.{has, only, letter, with_permission, all_permissions}
-use Rattle.rule_judge.specs.Linking.{is_allowed, allowed, extra, widening, link_verdict, IsSubset}
-use Rattle.rule_judge.specs.declared.linking.LinkVerdict.TheVariants.{Refused, Wider, Fine}
+use Rattle.rule_judge.specs.Links.{is_allowed, allowed, extra, widening, link_verdict, IsSubset}
+use Rattle.rule_judge.specs.declared.links.LinkVerdict.TheVariants.{Refused, Wider, Fine}
 use Rattle.names.specs.declared.verdict.Verdict.{Verdict}
 use Rattle.names.specs.declared.verdict.Verdict.TheVariants.{Denied, NoRule, Allowed}
 use Rattle.rule_profile.specs.Profile.{RuleValue}

@@ -1,1 +1,1 @@
-pub mod Linking
+pub mod Links

@@ -4,10 +4,10 @@
 //! The definitions to believe are those in `specs/`.
 #![tactic(auto)]
 
-mod judging;
-mod linking;
+mod judgment;
+mod links;
 
-pub use judging::judge_slow;
-pub use linking::{
+pub use judgment::judge_slow;
+pub use links::{
     LinkVerdict, allowed_by_themselves, allowed_perms, fine_links_widen_nothing, judge_link,
 };

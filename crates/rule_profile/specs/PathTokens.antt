@@ -1,4 +1,4 @@
--- What stands beside a token of a path: plain slashes and the path's end, and how deep in groups it stands.
+-- What is next to a token of a path: plain slashes and the path's end, and how deep in groups it is.
 use Rattle.std.specs.Prelude.{ℕ, suc, ◌-◌, List, [], ◌∷◌, Bool, true, false}
 use Rattle.rule_globs.specs.Glob.{is_slash}
 use Rattle.rule_globs.specs.Tokens.{Token, byte, any_byte, bracket, stars, opening, between, closing}
@@ -13,12 +13,12 @@ is_plain_slash opening = false
 is_plain_slash between = false
 is_plain_slash closing = false
 
--- what stands behind is a plain slash, or the path's end
+-- a plain slash follows, or the path's end
 abbrev pub slash_or_end_behind : List Token → Bool
 slash_or_end_behind [] = true
 slash_or_end_behind (t ∷ tokens) = is_plain_slash t
 
--- how deep in groups what stands behind a token is
+-- how deep in groups what follows a token is
 abbrev pub depth_behind : Token → ℕ → ℕ
 depth_behind opening depth = suc depth
 depth_behind closing depth = depth - 1

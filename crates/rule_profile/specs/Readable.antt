@@ -1,28 +1,29 @@
 -- The profiles that some text is read as.
 use Rattle.std.specs.Prelude.{ℕ, List, [], ◌∷◌, length, Bool, true, false, not, ◌&&◌, ◌||◌, ◌==◌, nat_lt, nat_le}
 use Rattle.std.specs.List.{list_all, list_any}
+use Rattle.names.specs.Ascii as ascii
 use Rattle.names.specs.Permissions.{has, all_permissions, conflicts}
 use Rattle.rule_globs.specs.declared.items.ByteRange.{ByteRange}
 use Rattle.rule_globs.specs.Rules.{RuleValue, ProfileValue}
-use Rattle.rule_profile.specs.Limits.{max_items, max_rules, max_depth, max_name}
+use Rattle.rule_profile.specs.Limits.{most_items, most_rules, most_nested, longest_profile_name}
 use Rattle.rule_profile.specs.PathTokens.{is_plain_slash, slash_or_end_behind, depth_behind}
 use Rattle.rule_globs.specs.Tokens.{Token, byte, any_byte, bracket, stars, opening, between, closing}
 
 -- neither byte 0 nor LF
 abbrev pub can_stand : ℕ → Bool
-can_stand b = not (b == 0 || b == 10)
+can_stand b = not (b == 0 || b == ascii.line_feed)
 
--- Each backslash (92) goes with the byte behind it, and no quote (34) stands by itself. The flag says whether a backslash
--- stands before these bytes.
+-- Each backslash goes with the byte after it, and no quote is by itself. The flag says whether a backslash is before
+-- these bytes.
 abbrev pub are_name_bytes : Bool → List ℕ → Bool
 are_name_bytes escaped [] = not escaped
 are_name_bytes escaped (b ∷ bytes) =
-    can_stand b && (escaped || not (b == 34)) && are_name_bytes (not escaped && b == 92) bytes
+    can_stand b && (escaped || not (b == ascii.quote)) && are_name_bytes (not escaped && b == ascii.backslash) bytes
 
--- at least one byte and no more than fit, the first of which is no colon (58)
+-- at least one byte and no more than fit, the first of which is no colon
 abbrev pub is_name : List ℕ → Bool
 is_name [] = false
-is_name (b ∷ bytes) = not (b == 58) && nat_le (length (b ∷ bytes)) max_name && are_name_bytes false (b ∷ bytes)
+is_name (b ∷ bytes) = not (b == ascii.colon) && nat_le (length (b ∷ bytes)) longest_profile_name && are_name_bytes false (b ∷ bytes)
 
 abbrev pub is_range : ByteRange → Bool
 is_range r = can_stand r.first && can_stand r.last && nat_le r.first r.last
@@ -40,8 +41,8 @@ abbrev pub begins_with_run : List Token → Bool
 begins_with_run [] = false
 begins_with_run (t ∷ tokens) = is_run t
 
--- A token directly behind a plain slash or not, so deep in groups, and with these behind it. No run stands beside another,
--- and it is strict just between a plain slash and another or the path's end.
+-- A token directly after a plain slash or not, `depth` deep in groups, and with the tokens `behind` after it. No run is next to
+-- another, and it is strict just between a plain slash and another or the path's end.
 abbrev pub is_token : Bool → ℕ → List Token → Token → Bool
 is_token after_slash depth behind (byte b) = can_stand b
 is_token after_slash depth behind any_byte = true
@@ -49,11 +50,11 @@ is_token after_slash depth behind (bracket negated ranges) = not (length ranges 
 is_token after_slash depth behind (stars crosses_slashes true) = not (begins_with_run behind) && after_slash && slash_or_end_behind behind
 is_token after_slash depth behind (stars crosses_slashes false) = not (begins_with_run behind)
     && not (after_slash && slash_or_end_behind behind)
-is_token after_slash depth behind opening = nat_lt depth max_depth
+is_token after_slash depth behind opening = nat_lt depth most_nested
 is_token after_slash depth behind between = nat_lt 0 depth
 is_token after_slash depth behind closing = nat_lt 0 depth
 
--- each token is one where it stands, and all groups are closed in the end
+-- each token is allowed where it is, and all groups are closed in the end
 abbrev pub are_tokens : Bool → ℕ → List Token → Bool
 are_tokens after_slash depth [] = depth == 0
 are_tokens after_slash depth (t ∷ tokens) =
@@ -65,7 +66,7 @@ begins_with_slash (t ∷ tokens) = is_plain_slash t
 
 -- no more tokens than fit, the first of which is a slash
 abbrev pub is_path : List Token → Bool
-is_path tokens = begins_with_slash tokens && nat_le (length tokens) max_items && are_tokens false 0 tokens
+is_path tokens = begins_with_slash tokens && nat_le (length tokens) most_items && are_tokens false 0 tokens
 
 -- some permission, no two that conflict, and a path
 abbrev pub is_rule : RuleValue → Bool
@@ -73,4 +74,4 @@ is_rule r = list_any (has r.perms) all_permissions && not (conflicts r.perms) &&
 
 -- no more rules than fit
 abbrev pub is_profile : ProfileValue → Bool
-is_profile p = is_name p.name && nat_le (length p.rules) max_rules && list_all is_rule p.rules
+is_profile p = is_name p.name && nat_le (length p.rules) most_rules && list_all is_rule p.rules

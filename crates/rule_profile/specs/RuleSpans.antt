@@ -1,10 +1,10 @@
--- Where the rules of a profile stand in the text that they were read from.
+-- Where the rules of a profile are in the text that they were read from.
 use Rattle.std.specs.Prelude.{List, map}
 use Rattle.rule_profile.specs.declared.profile.Profile.{Profile}
 use Rattle.rule_profile.specs.declared.profile.Rule.{Rule}
 use Rattle.rule_profile.specs.declared.profile.Span.{Span}
 
--- where a rule that was read stands
+-- where a rule that was read is
 abbrev pub rule_span : Rule → Span
 rule_span rule = rule.span
 

@@ -1,5 +1,5 @@
 ghost use Rattle.std.specs.Prelude.{◌≡◌, ◌≤◌, IsTrue, length, map};
-ghost use Rattle.rule_profile.specs.Limits.{max_rules};
+ghost use Rattle.rule_profile.specs.Limits.{most_rules};
 ghost use Rattle.rule_profile.specs.Rules.{rule_value};
 ghost use Rattle.rule_profile.specs.Readable.{is_profile};
 
@@ -7,9 +7,15 @@ use names::{Perms, RuleKind};
 use rule_globs::{Item, RulePath};
 
 /// The most rules of a profile.
-pub const MAX_RULES: usize = 1024;
+pub const MOST_RULES: usize = 1024;
 
-/// Where a rule stands in its text: from its first byte to its comma.
+/// The most bytes of a profile's name (our choice).
+pub const LONGEST_PROFILE_NAME: usize = 255;
+
+/// How deep the groups of a path may nest (our choice).
+pub const MOST_NESTED: usize = 50;
+
+/// Where a rule is in its text: from its first byte to its comma.
 #[derive(Clone, Copy, Debug, PartialEq, Eq)]
 pub struct Span {
     /// The number of bytes before the rule's first byte.
@@ -30,14 +36,14 @@ pub struct Rule {
 
 impl Rule {
     ghost use Rattle.std.specs.Prelude.{map};
-    ghost use Rattle.rule_profile.specs.Limits.{max_places};
+    ghost use Rattle.rule_profile.specs.Limits.{most_places};
     ghost use Rattle.rule_profile.specs.Profile.{rule_value, pattern};
     ghost use Rattle.rule_profile.specs.RuleSpans.{rule_span};
     ghost use Rattle.rule_globs.specs.Tokens.{tokens_of};
     ghost use Rattle.rule_globs.specs.Meaning.{meaning_of};
     ghost use Rattle.rule_globs.specs.Glob.{places};
 
-    /// The rule that allows or denies these permissions to the names that the path takes. It stands in no text: its span is
+    /// The rule that allows or denies these permissions to the names that the path matches. It is in no text: its span is
     /// empty.
     pub fn new(kind: RuleKind, perms: Perms, path: RulePath) -> Rule
         ensures value { rule_value result ≡ record { kind = kind; perms = perms; items = path } }
@@ -84,12 +90,12 @@ impl Rule {
     pub fn items(&self) -> &[Item]
         ensures items { tokens_of result.now ≡ (rule_value self.now).items }
         ensures pattern { meaning_of result.now ≡ pattern (rule_value self.now) }
-        ensures room { places (meaning_of result.now) ≤ max_places }
+        ensures room { places (meaning_of result.now) ≤ most_places }
     {
         self.path.items()
     }
 
-    /// Where the rule stands in the text that it was read from.
+    /// Where the rule is in the text that it was read from.
     pub fn span(&self) -> Span
         ensures { result ≡ rule_span self.now }
     {
@@ -103,13 +109,13 @@ impl Rule {
 pub struct Profile {
     name: Vec<u8>,
     rules: Vec<Rule>,
-    ghost few_rules: { length rules.items ≤ max_rules },
+    ghost few_rules: { length rules.items ≤ most_rules },
     ghost readable: { IsTrue (is_profile (record { name = name.items; rules = map rule_value rules.items })) },
 }
 
 impl Profile {
     ghost use Rattle.std.specs.Prelude.{map};
-    ghost use Rattle.rule_profile.specs.Limits.{max_rules};
+    ghost use Rattle.rule_profile.specs.Limits.{most_rules};
     ghost use Rattle.rule_profile.specs.Profile.{rule_value, profile_value};
     ghost use Rattle.rule_profile.specs.Readable.{is_profile};
     ghost use Rattle.rule_profile.specs.RuleSpans.{rule_span, profile_spans};
@@ -134,7 +140,7 @@ impl Profile {
     pub fn rules(&self) -> &[Rule]
         ensures rules { map rule_value result.now ≡ (profile_value self.now).rules }
         ensures spans { map rule_span result.now ≡ profile_spans self.now }
-        ensures few { length result.now ≤ max_rules }
+        ensures few { length result.now ≤ most_rules }
     {
         &self.rules
     }

@@ -5,9 +5,9 @@ use Rattle.std.specs.Prelude.{◌||◌, not, codes, option_map, if◌then◌else
 use Rattle.std.specs.Char.{is_ascii_alphanumeric}
 use Rattle.std.proofs.lemmas.Bool.{or_parts, and_parts, not-true, eqb-true, ne_eqb}
 use Rattle.rule_globs.specs.declared.items.ByteRange.{ByteRange}
-use Rattle.rule_reader.specs.declared.reading.class.ClassByte.TheVariants.{Member, Backslash}
-use Rattle.rule_reader.specs.declared.reading.class.Pending.{Pending}
-use Rattle.rule_reader.specs.declared.reading.class.Pending.TheVariants.{Start, AfterRange, AfterDash, Single, Dash, Dashes}
+use Rattle.rule_reader.specs.declared.reader.class.ClassByte.TheVariants.{Member, Backslash}
+use Rattle.rule_reader.specs.declared.reader.class.Pending.{Pending}
+use Rattle.rule_reader.specs.declared.reader.class.Pending.TheVariants.{Start, AfterRange, AfterDash, Single, Dash, Dashes}
 use Rattle.rule_reader.specs.ReadClasses.{class_byte, alone, with_member, is_reversed, at_end, members_at, class_at}
 use Rattle.rule_globs.specs.Glob.{range, single}
 use Rattle.rule_reader.specs.TextBytes.{is_quote, is_escapable}

@@ -15,8 +15,8 @@ use Rattle.rule_globs.specs.Glob.{is_slash}
 use Rattle.rule_profile.specs.Profile.{RuleValue}
 use Rattle.rule_reader.specs.ReadWords.{blank, gap, word, after_word}
 use Rattle.rule_reader.specs.ReadPaths.{comma_ends, path_at}
-use Rattle.rule_reader.specs.Reading.{perms_at, perms_behind, first_word_at, qualifier_at, start_at, comma_at, body_at}
-use Rattle.rule_reader.specs.Reading.{rule_at, rules_at}
+use Rattle.rule_reader.specs.ReadText.{perms_at, perms_behind, first_word_at, qualifier_at, start_at, comma_at, body_at}
+use Rattle.rule_reader.specs.ReadText.{rule_at, rules_at}
 use Rattle.rule_reader.specs.TextBytes.{begins, opens_blank, is_quote, is_comma, is_arrow, is_close_brace, is_letter_byte, is_word_byte}
 use Rattle.rule_reader.specs.TextBytes.{ends_behind_comma}
 use Rattle.rule_globs.specs.Tokens.{Token}

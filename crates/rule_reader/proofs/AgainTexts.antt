@@ -3,7 +3,7 @@ use Rattle.std.proofs.Common.{◌≡◌, ℕ, List, [], ◌∷◌, ◌++◌, Ok,
 use Rattle.rule_profile.specs.Profile.{RuleValue, ProfileValue}
 use Rattle.rule_reader.specs.ReadWords.{blank}
 use Rattle.rule_reader.specs.ReadHeader.{header_at}
-use Rattle.rule_reader.specs.Reading.{rules_at, text_at}
+use Rattle.rule_reader.specs.ReadText.{rules_at, text_at}
 use Rattle.rule_reader.specs.GrammarWords.{print_blank, print_last}
 use Rattle.rule_reader.specs.Grammar.{print_header, header_means, print_rules, rules_mean, WrittenText, print_text, IsText, text_means}
 use Rattle.rule_reader.specs.Grammar.{ReadsAs}

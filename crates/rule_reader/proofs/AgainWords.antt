@@ -4,8 +4,8 @@ use Rattle.std.proofs.Common.{None, Result, Ok, refl, sym, ap, subst, ◌∙◌,
 use Rattle.std.specs.Prelude.{◌||◌, ◌&&◌, not, codes, nat_eq}
 use Rattle.std.specs.Cmp.Lexicographic.{pointwise}
 use Rattle.std.proofs.lemmas.Bool.{or_parts, and_parts, not-true, ne_eqb, eqb-true}
-use Rattle.rule_reader.specs.declared.reading.name.NameByte.TheVariants.{OfName, Ends}
-use Rattle.rule_reader.specs.declared.reading.local_fault.LocalFault.{LocalFault}
+use Rattle.rule_reader.specs.declared.reader.name.NameByte.TheVariants.{OfName, Ends}
+use Rattle.rule_reader.specs.declared.reader.local_fault.LocalFault.{LocalFault}
 use Rattle.rule_reader.specs.ReadSteps.{◌>>=◌}
 use Rattle.rule_reader.specs.ReadWords.{blank, blank_at, gap, word, after_word, name_byte, name_bytes, name_in, quoted_name}
 use Rattle.rule_reader.specs.TextBytes.{begins, is_white, is_hash, opens_blank, is_include, is_include_mark, is_letter_byte, is_word_byte}

@@ -3,8 +3,8 @@ use Rattle.std.proofs.Common.{◌≡◌, ℕ, ◌≤◌, false, List, [], ◌∷
 use Rattle.std.specs.Prelude.{◌||◌, codes, if◌then◌else◌, nat_eq}
 use Rattle.std.specs.List.{starts_with}
 use Rattle.std.proofs.lemmas.Bool.{or_from}
-use Rattle.rule_reader.specs.declared.reading.local_fault.FaultKind.TheVariants as kinds
-use Rattle.rule_reader.specs.declared.reading.local_fault.LocalFault.{LocalFault}
+use Rattle.rule_reader.specs.declared.reader.local_fault.FaultKind.TheVariants as kinds
+use Rattle.rule_reader.specs.declared.reader.local_fault.LocalFault.{LocalFault}
 use Rattle.rule_globs.specs.Glob.{is_slash}
 use Rattle.rule_reader.specs.ReadSteps.{goes_on, fault_here, syntax}
 use Rattle.rule_reader.specs.ReadHeader.{slash_name_at, is_colon, begins_no_name, name_at, attachment_at, brace_at, named_header_at}

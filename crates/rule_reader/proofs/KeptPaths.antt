@@ -5,12 +5,12 @@ use Rattle.std.specs.Prelude.{◌&&◌, ◌||◌, not, codes, drop, nat_le}
 use Rattle.std.specs.Char.{is_ascii_alphanumeric}
 use Rattle.std.proofs.lemmas.Bool.{eqb-true, or_parts, and_parts, not-true, not-false}
 use Rattle.rule_globs.specs.declared.items.ByteRange.{ByteRange}
-use Rattle.rule_reader.specs.declared.reading.class.ClassByte.{ClassByte}
-use Rattle.rule_reader.specs.declared.reading.class.ClassByte.TheVariants.{Member, End, PathEnd, Backslash, Code, Wrong}
-use Rattle.rule_reader.specs.declared.reading.class.Pending.{Pending}
-use Rattle.rule_reader.specs.declared.reading.class.Pending.TheVariants.{Start}
-use Rattle.rule_reader.specs.declared.reading.local_fault.FaultKind.TheVariants as kinds
-use Rattle.rule_reader.specs.declared.reading.local_fault.LocalFault.{LocalFault}
+use Rattle.rule_reader.specs.declared.reader.class.ClassByte.{ClassByte}
+use Rattle.rule_reader.specs.declared.reader.class.ClassByte.TheVariants.{Member, End, PathEnd, Backslash, Code, Wrong}
+use Rattle.rule_reader.specs.declared.reader.class.Pending.{Pending}
+use Rattle.rule_reader.specs.declared.reader.class.Pending.TheVariants.{Start}
+use Rattle.rule_reader.specs.declared.reader.local_fault.FaultKind.TheVariants as kinds
+use Rattle.rule_reader.specs.declared.reader.local_fault.LocalFault.{LocalFault}
 use Rattle.rule_globs.specs.Glob.{is_slash}
 use Rattle.rule_reader.specs.ReadSteps.{◌>>=◌, goes_on, fault_with_left, syntax}
 use Rattle.rule_reader.specs.ReadClasses.{class_byte, with_member, is_reversed, at_end, members_at, class_at}

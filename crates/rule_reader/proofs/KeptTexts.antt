@@ -9,15 +9,15 @@ use Rattle.names.specs.Permissions.{perms_of, conflicts}
 use Rattle.rule_reader.specs.declared.fault.ReadFault.{ReadFault}
 use Rattle.names.specs.declared.kind.RuleKind.{RuleKind}
 use Rattle.names.specs.declared.kind.RuleKind.TheVariants.{Allow, Deny}
-use Rattle.rule_reader.specs.declared.reading.local_fault.FaultKind.TheVariants as kinds
-use Rattle.rule_reader.specs.declared.reading.local_fault.LocalFault.{LocalFault}
+use Rattle.rule_reader.specs.declared.reader.local_fault.FaultKind.TheVariants as kinds
+use Rattle.rule_reader.specs.declared.reader.local_fault.LocalFault.{LocalFault}
 use Rattle.rule_globs.specs.Glob.{is_slash}
 use Rattle.rule_profile.specs.Profile.{RuleValue, ProfileValue}
 use Rattle.rule_reader.specs.ReadFaults.{Refused, IsSettled}
 use Rattle.rule_reader.specs.ReadHeader.{header_at}
 use Rattle.rule_reader.specs.ReadPaths.{path_at, path_in}
-use Rattle.rule_reader.specs.Reading.{is_mode, perms_at, perms_behind, first_word_at, qualifier_at, start_at, comma_at}
-use Rattle.rule_reader.specs.Reading.{body_at, rule_at, rule_begins, rules_at, end_at, text_at, outcome_of}
+use Rattle.rule_reader.specs.ReadText.{is_mode, perms_at, perms_behind, first_word_at, qualifier_at, start_at, comma_at}
+use Rattle.rule_reader.specs.ReadText.{body_at, rule_at, rule_begins, rules_at, end_at, text_at, outcome_of}
 use Rattle.rule_reader.specs.ReadSteps.{◌>>=◌, goes_on, fault_here, fault_with_left, syntax, fault_of}
 use Rattle.rule_reader.specs.ReadWords.{blank, gap, word, after_word, is_word, fault_of_word, word_left_out}
 use Rattle.rule_reader.specs.TextBytes.{begins, is_quote, is_comma, is_close_brace, is_arrow, is_letter_byte}

@@ -4,9 +4,9 @@ use Rattle.std.proofs.Common.{ap, subst, ◌⊎◌, inl, inr, ◌==◌, arith}
 use Rattle.std.specs.Prelude.{◌&&◌, ◌||◌, not, codes, nat_eq}
 use Rattle.std.specs.List.{starts_with}
 use Rattle.std.proofs.lemmas.Bool.{eqb-true, ne_eqb}
-use Rattle.rule_reader.specs.declared.reading.name.NameByte.{NameByte}
-use Rattle.rule_reader.specs.declared.reading.name.NameByte.TheVariants.{OfName, Ends, Wrong}
-use Rattle.rule_reader.specs.declared.reading.local_fault.LocalFault.{LocalFault}
+use Rattle.rule_reader.specs.declared.reader.name.NameByte.{NameByte}
+use Rattle.rule_reader.specs.declared.reader.name.NameByte.TheVariants.{OfName, Ends, Wrong}
+use Rattle.rule_reader.specs.declared.reader.local_fault.LocalFault.{LocalFault}
 use Rattle.rule_reader.specs.ReadSteps.{◌>>=◌, goes_on, syntax}
 use Rattle.rule_reader.specs.ReadWords.{leading, after, blank_at, gap, literal, word, after_word, name_byte, name_bytes, name_in}
 use Rattle.rule_reader.specs.ReadWords.{quoted_name}

@@ -1,6 +1,6 @@
 pub mod ReadSteps
 pub mod ReadRuns
-pub mod TokenBuilding
+pub mod TokenSteps
 pub mod AgainWords
 pub mod AgainHeader
 pub mod AgainClasses

@@ -3,9 +3,9 @@ use Rattle.std.proofs.Common.{◌≡◌, ℕ, ◌<◌, Bool, true, false, cond, 
 use Rattle.std.specs.Prelude.{◌&&◌, ◌||◌, ◌==◌, not, nat_le}
 use Rattle.std.proofs.lemmas.Bool.{eqb-false, not-true, and_parts}
 use Rattle.rule_globs.specs.declared.items.ByteRange.{ByteRange}
-use Rattle.rule_reader.specs.declared.reading.local_fault.LocalFault.{LocalFault}
-use Rattle.rule_reader.specs.declared.reading.local_fault.FaultKind.TheVariants as kinds
-use Rattle.rule_reader.specs.inner.Building.{StandsIn}
+use Rattle.rule_reader.specs.declared.reader.local_fault.LocalFault.{LocalFault}
+use Rattle.rule_reader.specs.declared.reader.local_fault.FaultKind.TheVariants as kinds
+use Rattle.rule_reader.specs.inner.PartialPaths.{StandsIn}
 use Rattle.rule_reader.specs.ReadClasses.{class_at}
 use Rattle.rule_reader.specs.ReadPaths.{path_ends, escaped_at, goes_on_at, slash_or_end, token_at}
 use Rattle.rule_reader.specs.ReadSteps.{◌>>=◌}

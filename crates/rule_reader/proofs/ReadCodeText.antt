@@ -2,13 +2,13 @@
 use Rattle.std.proofs.Common.{◌≡◌, ℕ, true, false, List, [], ◌∷◌, length, Result, Ok, refl, ap, ◌∙◌, arith}
 use Rattle.std.proofs.lemmas.Bool.{eqb-true}
 use Rattle.std.specs.Prelude.{◌==◌, IsTrue}
-use Rattle.rule_reader.specs.declared.reading.local_fault.LocalFault.{LocalFault}
+use Rattle.rule_reader.specs.declared.reader.local_fault.LocalFault.{LocalFault}
 use Rattle.rule_profile.specs.Profile.{RuleValue, ProfileValue}
 use Rattle.rule_reader.specs.ReadSteps.{◌>>=◌, syntax}
 use Rattle.rule_reader.specs.ReadWords.{blank}
 use Rattle.rule_reader.specs.ReadHeader.{header_at}
 use Rattle.rule_profile.specs.Readable.{is_profile}
-use Rattle.rule_reader.specs.Reading.{rules_at, end_at, text_at}
+use Rattle.rule_reader.specs.ReadText.{rules_at, end_at, text_at}
 use Rattle.rule_reader.proofs.CanonTrees.{read_is_profile}
 use Rattle.rule_reader.proofs.TakeTexts.{text_takes}
 

@@ -3,17 +3,17 @@ use Rattle.std.proofs.Common.{◌≡◌, ℕ, zero, suc, ◌-◌, ◌+◌, ◌�
 use Rattle.std.proofs.Common.{Option, Some, None, Result, Ok, Err, refl, sym, ap, subst, ◌∙◌, inl, inr, append_assoc, arith}
 use Rattle.std.proofs.lemmas.List.{append-nil, length-append, map_push}
 use Rattle.rule_profile.specs.declared.profile.Rule.{Rule}
-use Rattle.rule_reader.specs.declared.reading.local_fault.LocalFault.{LocalFault}
-use Rattle.rule_reader.specs.declared.reading.local_fault.FaultKind.TheVariants.{TooManyRules, TooManyItems}
-use Rattle.rule_reader.specs.declared.reading.local_fault.Failure.{Failure}
-use Rattle.rule_reader.specs.declared.reading.local_fault.Failure.TheVariants as failures
+use Rattle.rule_reader.specs.declared.reader.local_fault.LocalFault.{LocalFault}
+use Rattle.rule_reader.specs.declared.reader.local_fault.FaultKind.TheVariants.{TooManyRules, TooManyItems}
+use Rattle.rule_reader.specs.declared.reader.local_fault.Failure.{Failure}
+use Rattle.rule_reader.specs.declared.reader.local_fault.Failure.TheVariants as failures
 use Rattle.rule_profile.specs.Profile.{RuleValue, rule_value}
 use Rattle.rule_reader.specs.ReadSteps.{◌>>=◌, fault_here}
 use Rattle.rule_reader.specs.inner.Gives.{Fails}
 use Rattle.rule_reader.specs.ReadWords.{blank}
 use Rattle.rule_reader.specs.ReadPaths.{goes_on_at, token_at, tokens_at, braces_behind, all_closed}
 use Rattle.rule_profile.specs.PathTokens.{is_plain_slash}
-use Rattle.rule_reader.specs.Reading.{rule_at, rule_begins, rules_at}
+use Rattle.rule_reader.specs.ReadText.{rule_at, rule_begins, rules_at}
 use Rattle.rule_reader.specs.TextBytes.{begins, is_close_brace}
 use Rattle.rule_globs.specs.Tokens.{Token}
 use Rattle.rule_reader.proofs.ReadSteps.{chosen, some_is, none_some}

@@ -2,15 +2,15 @@
 use Rattle.std.proofs.Common.{◌≡◌, ℕ, ◌-◌, ◌↔◌, List, length, Result, Ok, Err, refl, sym, ◌∙◌, ap, subst, inl, inr}
 use Rattle.rule_reader.specs.declared.fault.ReadFault.{ReadFault}
 use Rattle.rule_reader.specs.declared.fault.ReadFault.TheVariants as faults
-use Rattle.rule_reader.specs.declared.reading.local_fault.LocalFault.{LocalFault}
-use Rattle.rule_reader.specs.declared.reading.local_fault.FaultKind.{FaultKind}
-use Rattle.rule_reader.specs.declared.reading.local_fault.FaultKind.TheVariants as kinds
+use Rattle.rule_reader.specs.declared.reader.local_fault.LocalFault.{LocalFault}
+use Rattle.rule_reader.specs.declared.reader.local_fault.FaultKind.{FaultKind}
+use Rattle.rule_reader.specs.declared.reader.local_fault.FaultKind.TheVariants as kinds
 use Rattle.rule_profile.specs.Profile.{ProfileValue}
-use Rattle.rule_reader.specs.declared.reading.local_fault.Failure.{Failure}
-use Rattle.rule_reader.specs.declared.reading.local_fault.Failure.TheVariants as failures
+use Rattle.rule_reader.specs.declared.reader.local_fault.Failure.{Failure}
+use Rattle.rule_reader.specs.declared.reader.local_fault.Failure.TheVariants as failures
 use Rattle.rule_reader.specs.ReadSteps.{fault_at, fault_of}
 use Rattle.rule_reader.specs.inner.Gives.{Fails}
-use Rattle.rule_reader.specs.Reading.{text_at, outcome_of}
+use Rattle.rule_reader.specs.ReadText.{text_at, outcome_of}
 use Rattle.rule_reader.specs.Grammar.{ReadsAs}
 use Rattle.rule_reader.specs.ReadFaults.{FaultsAs, HasOutcome}
 use Rattle.rule_reader.proofs.AgainTexts.{read_again}

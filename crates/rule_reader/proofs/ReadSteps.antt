@@ -1,6 +1,6 @@
 -- Steps that gave a value, tests that went one way, and values that are the same.
 use Rattle.std.proofs.Common.{◌≡◌, Bool, true, false, cond, Option, Some, None, Result, Ok, Err, refl, ◌⊎◌, inl, inr}
-use Rattle.rule_reader.specs.declared.reading.local_fault.LocalFault.{LocalFault}
+use Rattle.rule_reader.specs.declared.reader.local_fault.LocalFault.{LocalFault}
 use Rattle.rule_reader.specs.ReadSteps.{◌>>=◌}
 
 -- where two steps gave a value, the first one did

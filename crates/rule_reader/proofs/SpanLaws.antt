@@ -5,15 +5,15 @@ use Rattle.std.specs.Prelude.{codes}
 use Rattle.std.proofs.lemmas.List.{length-append}
 use Rattle.std.proofs.Math.Seq.{drop-append_seam}
 use Rattle.rule_profile.specs.declared.profile.Span.{Span}
-use Rattle.rule_reader.specs.declared.reading.local_fault.LocalFault.{LocalFault}
-use Rattle.rule_reader.specs.declared.reading.local_fault.FaultKind.TheVariants as kinds
+use Rattle.rule_reader.specs.declared.reader.local_fault.LocalFault.{LocalFault}
+use Rattle.rule_reader.specs.declared.reader.local_fault.FaultKind.TheVariants as kinds
 use Rattle.rule_reader.specs.Grammar.{print_header}
 use Rattle.rule_reader.specs.GrammarWords.{print_blank}
 use Rattle.rule_profile.specs.Profile.{RuleValue, ProfileValue}
 use Rattle.rule_reader.specs.ReadHeader.{header_at}
 use Rattle.rule_reader.specs.ReadSteps.{◌>>=◌, fault_here}
 use Rattle.rule_reader.specs.ReadWords.{blank}
-use Rattle.rule_reader.specs.Reading.{rule_at, rule_begins, rules_at, end_at, text_at, outcome_of}
+use Rattle.rule_reader.specs.ReadText.{rule_at, rule_begins, rules_at, end_at, text_at, outcome_of}
 use Rattle.rule_reader.specs.Spans.{span_between, spans_at, spans_of, IsReadAgain, AreReadAgain}
 use Rattle.rule_reader.specs.TextBytes.{begins, is_close_brace}
 use Rattle.rule_reader.proofs.AgainTexts.{read_again}

@@ -7,7 +7,7 @@ use Rattle.rule_profile.specs.declared.profile.Span.{Span}
 use Rattle.rule_profile.specs.Profile.{rule_value}
 use Rattle.rule_reader.specs.ReadHeader.{header_at}
 use Rattle.rule_reader.specs.ReadWords.{blank}
-use Rattle.rule_reader.specs.Reading.{rule_at}
+use Rattle.rule_reader.specs.ReadText.{rule_at}
 use Rattle.rule_profile.specs.RuleSpans.{rule_span}
 use Rattle.rule_reader.specs.Spans.{span_between, spans_at, spans_of}
 use Rattle.rule_reader.proofs.ReadLoops.{closing, nothing, just, is_closing, not_closing}

@@ -5,12 +5,12 @@ use Rattle.std.specs.Prelude.{◌||◌, ◌&&◌, not, nat_lt, codes, if◌then�
 use Rattle.std.specs.Char.{is_ascii_alphanumeric}
 use Rattle.std.proofs.lemmas.Bool.{eqb-true, ne_eqb, not_from_false}
 use Rattle.rule_globs.specs.declared.items.ByteRange.{ByteRange}
-use Rattle.rule_reader.specs.declared.reading.class.ClassByte.{ClassByte}
-use Rattle.rule_reader.specs.declared.reading.class.ClassByte.TheVariants.{Member, End, PathEnd, Backslash, Code, Wrong}
-use Rattle.rule_reader.specs.declared.reading.class.Pending.{Pending}
-use Rattle.rule_reader.specs.declared.reading.class.Pending.TheVariants.{Start, AfterRange, AfterDash, Single, Dash, Dashes}
-use Rattle.rule_reader.specs.declared.reading.local_fault.LocalFault.{LocalFault}
-use Rattle.rule_reader.specs.declared.reading.local_fault.FaultKind.TheVariants as kinds
+use Rattle.rule_reader.specs.declared.reader.class.ClassByte.{ClassByte}
+use Rattle.rule_reader.specs.declared.reader.class.ClassByte.TheVariants.{Member, End, PathEnd, Backslash, Code, Wrong}
+use Rattle.rule_reader.specs.declared.reader.class.Pending.{Pending}
+use Rattle.rule_reader.specs.declared.reader.class.Pending.TheVariants.{Start, AfterRange, AfterDash, Single, Dash, Dashes}
+use Rattle.rule_reader.specs.declared.reader.local_fault.LocalFault.{LocalFault}
+use Rattle.rule_reader.specs.declared.reader.local_fault.FaultKind.TheVariants as kinds
 use Rattle.rule_reader.specs.GrammarWords.{Cell, plain, escaped, print_cells, byte_of, is_plain}
 use Rattle.rule_globs.specs.Each.{Each}
 use Rattle.rule_reader.specs.GrammarPaths.{members, WrittenClass, print_class, IsClassCell, IsBegun, IsClass}
@@ -115,7 +115,7 @@ plain_is : (k : ℕ) (c : Cell) → is_plain k c ≡ true → c ≡ plain k
 plain_is k (plain b) h = ap (λ (x : ℕ). plain x) (eqb-true b k h)
 plain_is k (escaped b) h = absurd cc
 
--- one member more
+-- one more member
 alone_step : (dash : Bool) (b : ℕ) (c : Cell) (cells : List Cell) (others : List ByteRange) → is_plain 45 c ≡ dash → byte_of c ≡ b →
     members_from (alone dash b).1 cells ≡ Some others
     → members true (c ∷ cells) ≡ Some ((alone dash b).0 ++ others)

@@ -8,8 +8,8 @@ use Rattle.std.specs.List.{starts_with}
 use Rattle.std.proofs.lemmas.Bool.{eqb-true, eqb-false, leb-false, and_parts, and_from, and_cases, and_left, and_right, or_parts, or_from}
 use Rattle.std.proofs.lemmas.Bool.{not_from_false, not-false, not-true, eq-eqb, ne_eqb, false_from_ne_true}
 use Rattle.rule_globs.specs.declared.items.ByteRange.{ByteRange}
-use Rattle.rule_reader.specs.declared.reading.local_fault.LocalFault.{LocalFault}
-use Rattle.rule_reader.specs.declared.reading.local_fault.FaultKind.TheVariants as kinds
+use Rattle.rule_reader.specs.declared.reader.local_fault.LocalFault.{LocalFault}
+use Rattle.rule_reader.specs.declared.reader.local_fault.FaultKind.TheVariants as kinds
 use Rattle.rule_globs.specs.Glob.{is_slash}
 use Rattle.rule_reader.specs.GrammarWords.{plain, escaped, may_stand}
 use Rattle.rule_reader.specs.GrammarPaths.{WrittenItem, cell, question, star, two_stars, class, open_brace, comma, close_brace, star_bytes}

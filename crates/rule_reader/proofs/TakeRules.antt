@@ -10,8 +10,8 @@ use Rattle.names.specs.declared.permissions.Perms.{Perms}
 use Rattle.names.specs.Permissions.{perms_of, conflicts}
 use Rattle.names.specs.declared.kind.RuleKind.{RuleKind}
 use Rattle.names.specs.declared.kind.RuleKind.TheVariants.{Allow, Deny}
-use Rattle.rule_reader.specs.declared.reading.local_fault.LocalFault.{LocalFault}
-use Rattle.rule_reader.specs.declared.reading.local_fault.FaultKind.TheVariants as kinds
+use Rattle.rule_reader.specs.declared.reader.local_fault.LocalFault.{LocalFault}
+use Rattle.rule_reader.specs.declared.reader.local_fault.FaultKind.TheVariants as kinds
 use Rattle.rule_globs.specs.Glob.{is_slash}
 use Rattle.rule_reader.specs.Grammar.{Qualifier, none, allow, deny, print_qualifier, IsQualifier, kind_of, IsWord, WrittenRule, print_rule}
 use Rattle.rule_reader.specs.Grammar.{CommaEnds, PathStands, BeginsNoAll, IsRule, rule_means, print_rules, AreRules, rules_mean}
@@ -21,8 +21,8 @@ use Rattle.rule_profile.specs.Profile.{RuleValue}
 use Rattle.rule_reader.specs.ReadPaths.{path_at, comma_ends}
 use Rattle.rule_reader.specs.ReadSteps.{◌>>=◌, goes_on, fault_here, fault_with_left, syntax}
 use Rattle.rule_reader.specs.ReadWords.{blank, gap, word, after_word, is_word, fault_of_word, word_left_out}
-use Rattle.rule_reader.specs.Reading.{is_mode, perms_at, perms_behind, first_word_at, qualifier_at, start_at, comma_at}
-use Rattle.rule_reader.specs.Reading.{body_at, rule_at, rule_begins, rules_at}
+use Rattle.rule_reader.specs.ReadText.{is_mode, perms_at, perms_behind, first_word_at, qualifier_at, start_at, comma_at}
+use Rattle.rule_reader.specs.ReadText.{body_at, rule_at, rule_begins, rules_at}
 use Rattle.rule_reader.specs.TextBytes.{begins, is_quote, is_comma, is_close_brace, is_arrow}
 use Rattle.rule_globs.specs.Tokens.{Token}
 use Rattle.rule_reader.proofs.ReadSteps.{bind_ok, chosen, ok_is, not_ok, some_is, none_some}

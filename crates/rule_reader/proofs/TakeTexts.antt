@@ -1,14 +1,14 @@
 -- Texts: what is read is in the grammar.
 use Rattle.std.proofs.Common.{◌≡◌, ℕ, List, [], ◌∷◌, ◌++◌, Result, Ok, refl, ap, subst, ◌∙◌, append-nil}
 use Rattle.std.specs.Prelude.{codes}
-use Rattle.rule_reader.specs.declared.reading.local_fault.LocalFault.{LocalFault}
+use Rattle.rule_reader.specs.declared.reader.local_fault.LocalFault.{LocalFault}
 use Rattle.rule_reader.specs.Grammar.{print_header, print_rules, print_text, ReadsAs}
 use Rattle.rule_reader.specs.GrammarWords.{print_blank, print_last}
 use Rattle.rule_profile.specs.Profile.{RuleValue, ProfileValue}
 use Rattle.rule_reader.specs.ReadHeader.{header_at}
 use Rattle.rule_reader.specs.ReadSteps.{◌>>=◌}
 use Rattle.rule_reader.specs.ReadWords.{blank}
-use Rattle.rule_reader.specs.Reading.{rules_at, end_at, text_at}
+use Rattle.rule_reader.specs.ReadText.{rules_at, end_at, text_at}
 use Rattle.rule_reader.proofs.ReadSteps.{bind_ok, ok_is, not_ok}
 use Rattle.rule_reader.proofs.TakeWords.{BlankTaken, blank_takes, MiddleBlank, middle_blank}
 use Rattle.rule_reader.proofs.TakeHeader.{HeaderTaken, header_takes, header_some}

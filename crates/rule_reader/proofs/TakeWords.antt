@@ -6,10 +6,10 @@ use Rattle.std.specs.List.{starts_with}
 use Rattle.std.proofs.lemmas.Bool.{eqb-true, and_parts, and_from, or_parts, or_from, false_from_ne_true}
 use Rattle.std.proofs.lemmas.List.{append-nil}
 use Rattle.std.proofs.lemmas.Slice.Eq.{bytes_eq-Decides}
-use Rattle.rule_reader.specs.declared.reading.name.NameByte.{NameByte}
-use Rattle.rule_reader.specs.declared.reading.name.NameByte.TheVariants.{OfName, Ends, Wrong}
-use Rattle.rule_reader.specs.declared.reading.local_fault.LocalFault.{LocalFault}
-use Rattle.rule_reader.specs.declared.reading.local_fault.FaultKind.TheVariants as kinds
+use Rattle.rule_reader.specs.declared.reader.name.NameByte.{NameByte}
+use Rattle.rule_reader.specs.declared.reader.name.NameByte.TheVariants.{OfName, Ends, Wrong}
+use Rattle.rule_reader.specs.declared.reader.local_fault.LocalFault.{LocalFault}
+use Rattle.rule_reader.specs.declared.reader.local_fault.FaultKind.TheVariants as kinds
 use Rattle.rule_reader.specs.GrammarWords.{Cell, plain, escaped, print_cells, Piece, white, comment, print_blank, IsCommentByte, IsBlank}
 use Rattle.rule_reader.specs.GrammarWords.{IsGap, Stands, print_last, IsLast, IsNameCell}
 use Rattle.rule_globs.specs.Each.{Each}

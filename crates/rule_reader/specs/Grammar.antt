@@ -9,7 +9,7 @@ use Rattle.rule_reader.specs.GrammarPaths.{WrittenPath, print_path, IsPath, path
 use Rattle.rule_reader.specs.GrammarWords.{Piece, print_blank, IsBlank, IsGap, Stands, print_last, IsLast, WrittenName, print_name}
 use Rattle.rule_reader.specs.GrammarWords.{name_means, IsWrittenName, IsNameCell, IsFirst, BeginsWithSlash}
 use Rattle.rule_globs.specs.Each.{Each}
-use Rattle.rule_profile.specs.Limits.{max_rules}
+use Rattle.rule_profile.specs.Limits.{most_rules}
 use Rattle.rule_profile.specs.Profile.{RuleValue, ProfileValue}
 use Rattle.rule_reader.specs.TextBytes.{begins, ends_behind_comma}
 
@@ -178,7 +178,7 @@ pub record IsText (t : WrittenText) : Type 0 where
   pub header : IsHeader t.header
   pub inside : IsBlank t.inside
   pub rules : AreRules t.rules
-  pub rules_fit : length t.rules ≤ max_rules
+  pub rules_fit : length t.rules ≤ most_rules
   pub past : IsBlank t.past
   pub last : IsLast t.last
 

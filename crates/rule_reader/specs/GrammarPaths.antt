@@ -2,18 +2,19 @@
 -- the order written.
 use Rattle.std.specs.Prelude.{◌≡◌, ℕ, zero, suc, ◌≤◌, ◌<◌, List, [], ◌∷◌, ◌++◌, length, codes, Bool, true, false, not, ◌&&◌, ◌||◌, ◌==◌}
 use Rattle.std.specs.Prelude.{if◌then◌else◌, nat_lt, Option, Some, None, option_map, map}
+use Rattle.names.specs.Ascii as ascii
 use Rattle.rule_globs.specs.declared.items.ByteRange.{ByteRange}
 use Rattle.rule_globs.specs.Glob.{range, single}
 use Rattle.rule_reader.specs.GrammarWords.{Cell, plain, escaped, print_cell, print_cells, byte_of, is_plain, may_stand, in_quotes}
 use Rattle.rule_globs.specs.Each.{Each}
-use Rattle.rule_profile.specs.Limits.{max_items, max_depth}
+use Rattle.rule_profile.specs.Limits.{most_items, most_nested}
 use Rattle.rule_profile.specs.PathTokens.{is_plain_slash, slash_or_end_behind, depth_behind}
 use Rattle.rule_reader.specs.TextBytes.{is_quote, is_open_brace, is_star, ends_behind_comma, is_escapable}
 use Rattle.rule_globs.specs.Tokens.{Token, byte, any_byte, bracket, stars, opening, between, closing}
 
 -- ---- classes
 
--- The members of a class, from left to right. A dash (45) by itself makes a range of the members before and after it; but one that
+-- The members of a class, from left to right. A dash by itself makes a range of the members before and after it; but one that
 -- is first, last or directly after a range is a member, and not the end of a range. `apart` says that a dash here is first, or
 -- directly after a range. None where a range is reversed.
 unfoldable pub members : Bool → List Cell → Option (List ByteRange)
@@ -36,12 +37,12 @@ pub record WrittenClass : Type 0 where
 abbrev pub print_class : WrittenClass → List ℕ
 print_class c = codes "[" ++ ((if c.negated then codes "^" else []) ++ (print_cells c.cells ++ codes "]"))
 
--- Any byte but a quote, a closing bracket (93) and a backslash, where it is allowed.
+-- Any byte but a quote, a closing bracket and a backslash, where it is allowed.
 abbrev pub IsClassCell : Bool → Cell → Type 0
-IsClassCell quoted (plain b) = (may_stand quoted b && not (is_quote b || b == 93 || b == 92)) ≡ true
+IsClassCell quoted (plain b) = (may_stand quoted b && not (is_quote b || b == ascii.close_bracket || b == ascii.backslash)) ≡ true
 IsClassCell quoted (escaped b) = is_escapable b ≡ true
 
--- a class that is not negated doesn't begin with ^ (94)
+-- a class that is not negated doesn't begin with ^
 abbrev pub IsBegun : Bool → List Cell → Type 0
 IsBegun negated [] = ⊥
 IsBegun negated (c ∷ cells) = (negated || not (is_plain 94 c)) ≡ true
@@ -68,13 +69,13 @@ pub data WrittenItem : Type 0 where
 -- this many stars
 abbrev pub star_bytes : ℕ → List ℕ
 star_bytes zero = []
-star_bytes (suc n) = 42 ∷ star_bytes n
+star_bytes (suc n) = ascii.asterisk ∷ star_bytes n
 
 abbrev pub print_item : WrittenItem → List ℕ
 print_item (cell c) = print_cell c
 print_item question = codes "?"
 print_item star = codes "*"
-print_item (two_stars more) = 42 ∷ 42 ∷ star_bytes more
+print_item (two_stars more) = ascii.asterisk ∷ ascii.asterisk ∷ star_bytes more
 print_item (class c) = print_class c
 print_item open_brace = codes "{"
 print_item comma = codes ","
@@ -96,12 +97,13 @@ next_is test (Some b) = test b
 
 -- A byte that stands for itself is none of the other items: no star, question mark, bracket, brace or backslash, and no comma
 -- within groups. In a bare path a comma outside groups would end the path before certain bytes and at its end. A variable would
--- begin with @ (64) and a brace.
+-- begin with @ and a brace.
 abbrev pub stands_for_itself : Bool → ℕ → Option ℕ → ℕ → Bool
 stands_for_itself quoted depth next b =
-    may_stand quoted b && not (is_quote b || b == 42 || b == 63 || b == 91 || b == 92 || b == 123 || b == 125)
-    && not (b == 44 && not ((depth == 0) && (quoted || next_is (λ c. not (ends_behind_comma c)) next)))
-    && not (b == 64 && next_is is_open_brace next)
+    may_stand quoted b && not (is_quote b || b == ascii.asterisk || b == ascii.question_mark || b == ascii.open_bracket
+    || b == ascii.backslash || b == ascii.open_brace || b == ascii.close_brace)
+    && not (b == ascii.comma && not ((depth == 0) && (quoted || next_is (λ c. not (ends_behind_comma c)) next)))
+    && not (b == ascii.at_sign && next_is is_open_brace next)
 
 -- Valid at this depth of groups, before this next byte of the path. A run of stars is one item, so no star follows it.
 abbrev pub IsItem : Bool → ℕ → Option ℕ → WrittenItem → Type 0
@@ -111,7 +113,7 @@ IsItem quoted depth next question = Unit {0}
 IsItem quoted depth next star = next_is is_star next ≡ false
 IsItem quoted depth next (two_stars more) = next_is is_star next ≡ false
 IsItem quoted depth next (class c) = IsClass quoted c
-IsItem quoted depth next open_brace = depth < max_depth
+IsItem quoted depth next open_brace = depth < most_nested
 IsItem quoted depth next comma = 0 < depth
 IsItem quoted depth next close_brace = 0 < depth
 
@@ -170,7 +172,7 @@ IsAbsolute (i ∷ items) = i ≡ cell (plain 47)
 pub record IsPath (p : WrittenPath) : Type 0 where
   pub absolute : IsAbsolute p.items
   pub items : AreItems p.quoted 0 p.items
-  pub fits : length p.items ≤ max_items
+  pub fits : length p.items ≤ most_items
 
 abbrev pub path_means : WrittenPath → List Token
 path_means p = items_mean false p.items

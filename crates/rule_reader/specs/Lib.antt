@@ -7,7 +7,7 @@ pub mod ReadHeader
 pub mod ReadClasses
 pub mod ReadPaths
 pub mod PathText
-pub mod Reading
+pub mod ReadText
 pub mod Spans
 pub mod GrammarWords
 pub mod GrammarPaths

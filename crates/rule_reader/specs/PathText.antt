@@ -1,8 +1,8 @@
 -- A text that as a whole is the inside of a quoted path, except that it need not begin with a slash.
 use Rattle.std.specs.Prelude.{ℕ, List, [], ◌++◌, length, codes, Result, Ok, Err, Option, Some, None, true, false, ◌==◌, if◌then◌else◌}
 use Rattle.rule_globs.specs.Tokens.{Token}
-use Rattle.rule_reader.specs.declared.reading.local_fault.LocalFault.{LocalFault}
-use Rattle.rule_profile.specs.Limits.{max_items}
+use Rattle.rule_reader.specs.declared.reader.local_fault.LocalFault.{LocalFault}
+use Rattle.rule_profile.specs.Limits.{most_items}
 use Rattle.rule_reader.specs.ReadPaths.{tokens_at}
 
 -- what was read, if only the closing quote is left
@@ -12,4 +12,4 @@ whole_tokens (Err fault) = None
 
 -- the tokens of the whole text, or none
 abbrev pub text_tokens : List ℕ → Option (List Token)
-text_tokens text = whole_tokens (tokens_at true max_items [] false (text ++ codes "\""))
+text_tokens text = whole_tokens (tokens_at true most_items [] false (text ++ codes "\""))

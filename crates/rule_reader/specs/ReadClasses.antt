@@ -2,33 +2,34 @@
 use Rattle.std.specs.Prelude.{ℕ, suc, List, [], ◌∷◌, ◌++◌, length, Result, Ok, Option, Some, None, Bool, true, false, not, ◌&&◌, ◌||◌}
 use Rattle.std.specs.Prelude.{◌==◌, if◌then◌else◌, nat_lt, drop}
 use Rattle.std.specs.Char.{is_ascii_alphanumeric}
+use Rattle.names.specs.Ascii as ascii
 use Rattle.rule_globs.specs.declared.items.ByteRange.{ByteRange}
 use Rattle.rule_globs.specs.Glob.{range, single}
-use Rattle.rule_reader.specs.declared.reading.class.ClassByte.{ClassByte}
-use Rattle.rule_reader.specs.declared.reading.class.ClassByte.TheVariants.{Member, End, PathEnd, Backslash, Code, Wrong}
-use Rattle.rule_reader.specs.declared.reading.class.Pending.{Pending}
-use Rattle.rule_reader.specs.declared.reading.class.Pending.TheVariants.{Start, AfterRange, AfterDash, Single, Dash, Dashes}
-use Rattle.rule_reader.specs.declared.reading.local_fault.FaultKind.TheVariants as kinds
-use Rattle.rule_reader.specs.declared.reading.local_fault.LocalFault.{LocalFault}
+use Rattle.rule_reader.specs.declared.reader.class.ClassByte.{ClassByte}
+use Rattle.rule_reader.specs.declared.reader.class.ClassByte.TheVariants.{Member, End, PathEnd, Backslash, Code, Wrong}
+use Rattle.rule_reader.specs.declared.reader.class.Pending.{Pending}
+use Rattle.rule_reader.specs.declared.reader.class.Pending.TheVariants.{Start, AfterRange, AfterDash, Single, Dash, Dashes}
+use Rattle.rule_reader.specs.declared.reader.local_fault.FaultKind.TheVariants as kinds
+use Rattle.rule_reader.specs.declared.reader.local_fault.LocalFault.{LocalFault}
 use Rattle.rule_reader.specs.ReadSteps.{◌>>=◌, fault_with_left, syntax}
 use Rattle.rule_reader.specs.TextBytes.{begins, is_white, is_quote}
 
 -- What a byte is in a class: in a quoted path or a bare one, and directly after a backslash or not.
 abbrev pub class_byte : Bool → Bool → ℕ → ClassByte
 class_byte quoted escaped b =
-    if b == 0 || (b == 10 && (quoted || escaped)) then Wrong
+    if b == 0 || (b == ascii.line_feed && (quoted || escaped)) then Wrong
     else if escaped then (if is_ascii_alphanumeric b then Code else Member)
-    else if b == 93 then End
+    else if b == ascii.close_bracket then End
     else if is_quote b || (not quoted && is_white b) then PathEnd
-    else if b == 92 then Backslash
+    else if b == ascii.backslash then Backslash
     else Member
 
 -- A member where a dash can only stand for itself: at the class's start and directly after a range.
 abbrev pub alone : Bool → ℕ → List ByteRange × Pending
-alone dash b = if dash then (single 45 ∷ [], AfterDash) else ([], Single b)
+alone dash b = if dash then (single ascii.dash ∷ [], AfterDash) else ([], Single b)
 
 -- One more member byte, either a dash that is not after a backslash or any other byte: the ranges that it completes, and what is
--- pending then. None where a range is reversed. A dash (45) is the end of a range only where the class goes on after it.
+-- pending then. None where a range is reversed. A dash is the end of a range only where the class goes on after it.
 abbrev pub with_member : Pending → Bool → ℕ → Option (List ByteRange × Pending)
 with_member Start dash b = Some (alone dash b)
 with_member AfterRange dash b = Some (alone dash b)
@@ -37,11 +38,11 @@ with_member (Single d) dash b = Some (if dash then ([], Dash d) else (single d �
 with_member (Dash d) dash b =
     if dash then Some ([], Dashes d) else if nat_lt b d then None else Some (range d b ∷ [], AfterRange)
 with_member (Dashes d) dash b =
-    if nat_lt 45 d then None else Some (range d 45 ∷ (alone dash b).0, (alone dash b).1)
+    if nat_lt ascii.dash d then None else Some (range d ascii.dash ∷ (alone dash b).0, (alone dash b).1)
 
 -- The class goes on, and a range from what is pending to a dash is reversed.
 abbrev pub is_reversed : Pending → Bool
-is_reversed (Dashes d) = nat_lt 45 d
+is_reversed (Dashes d) = nat_lt ascii.dash d
 is_reversed Start = false
 is_reversed AfterRange = false
 is_reversed AfterDash = false
@@ -54,14 +55,14 @@ at_end Start = None
 at_end AfterRange = Some []
 at_end AfterDash = Some []
 at_end (Single d) = Some (single d ∷ [])
-at_end (Dash d) = Some (single d ∷ single 45 ∷ [])
-at_end (Dashes d) = Some (single d ∷ single 45 ∷ single 45 ∷ [])
+at_end (Dash d) = Some (single d ∷ single ascii.dash ∷ [])
+at_end (Dashes d) = Some (single d ∷ single ascii.dash ∷ single ascii.dash ∷ [])
 
 -- The members' ranges, in the order written, up to the closing bracket. From the opening bracket on, `bracket` bytes are left.
 unfoldable pub members_at : Bool → ℕ → Pending → Bool → List ℕ → Result (List ByteRange × List ℕ) LocalFault
 members_at quoted bracket pending escaped [] = if quoted || escaped then syntax [] else fault_with_left kinds.Class bracket []
 members_at quoted bracket pending escaped (b ∷ bytes) = elim (class_byte quoted escaped b) [
-  | Member ↦ elim (with_member pending (not escaped && b == 45) b) [
+  | Member ↦ elim (with_member pending (not escaped && b == ascii.dash) b) [
     | None ↦ fault_with_left kinds.Class bracket (b ∷ bytes)
     | Some x ↦ members_at quoted bracket x.1 false bytes >>= λ others. Ok (x.0 ++ others.0, others.1)
   ]
@@ -73,9 +74,9 @@ members_at quoted bracket pending escaped (b ∷ bytes) = elim (class_byte quote
   | Wrong ↦ syntax (b ∷ bytes)
 ]
 
--- Whether it is negated, and its ranges: what follows the opening bracket (94 is ^).
+-- Whether it is negated, and its ranges: what follows the opening bracket.
 unfoldable pub class_at : Bool → ℕ → List ℕ → Result ((Bool × List ByteRange) × List ℕ) LocalFault
 class_at quoted bracket bytes =
-    if begins (λ b. b == 94) bytes
+    if begins (λ b. b == ascii.caret) bytes
     then (members_at quoted bracket Start false (drop 1 bytes) >>= λ x. Ok ((true, x.0), x.1))
     else (members_at quoted bracket Start false bytes >>= λ x. Ok ((false, x.0), x.1))

@@ -3,12 +3,13 @@ use Rattle.std.specs.Prelude.{ℕ, zero, suc, List, [], ◌∷◌, length, codes
 use Rattle.std.specs.Prelude.{if◌then◌else◌, nat_le, drop, nat_eq}
 use Rattle.std.specs.Char.{is_ascii_alphanumeric}
 use Rattle.std.specs.List.{starts_with}
-use Rattle.rule_reader.specs.declared.reading.local_fault.FaultKind.TheVariants as kinds
-use Rattle.rule_reader.specs.declared.reading.local_fault.LocalFault.{LocalFault}
+use Rattle.names.specs.Ascii as ascii
+use Rattle.rule_reader.specs.declared.reader.local_fault.FaultKind.TheVariants as kinds
+use Rattle.rule_reader.specs.declared.reader.local_fault.LocalFault.{LocalFault}
 use Rattle.rule_globs.specs.Glob.{is_slash}
 use Rattle.rule_reader.specs.ReadClasses.{class_at}
 use Rattle.rule_reader.specs.ReadSteps.{◌>>=◌, fault_here, fault_with_left, syntax}
-use Rattle.rule_profile.specs.Limits.{max_items, max_depth}
+use Rattle.rule_profile.specs.Limits.{most_items, most_nested}
 use Rattle.rule_profile.specs.PathTokens.{is_plain_slash}
 use Rattle.rule_reader.specs.ReadWords.{after, literal}
 use Rattle.rule_reader.specs.TextBytes.{begins, is_white, is_quote, is_comma, is_star, is_open_brace, is_close_brace, ends_behind_comma}
@@ -20,7 +21,7 @@ comma_ends [] = true
 comma_ends (b ∷ bytes) = ends_behind_comma b
 
 -- The path ends before these bytes, at this depth of groups. One in quotes ends before a quote; a bare one before white and
--- a quote, at the text's end, and outside groups before a comma with the right byte behind it.
+-- a quote, at the text's end, and outside groups before a comma with the right byte after it.
 abbrev pub path_ends : Bool → ℕ → List ℕ → Bool
 path_ends quoted depth [] = not quoted
 path_ends quoted depth (b ∷ bytes) =
@@ -30,7 +31,7 @@ path_ends quoted depth (b ∷ bytes) =
 abbrev pub escaped_at : List ℕ → Result (ℕ × List ℕ) LocalFault
 escaped_at [] = syntax []
 escaped_at (b ∷ bytes) =
-    if b == 0 || b == 10 then syntax (b ∷ bytes)
+    if b == 0 || b == ascii.line_feed then syntax (b ∷ bytes)
     else if is_ascii_alphanumeric b then fault_with_left (kinds.LeftOut 2) (suc (length (b ∷ bytes))) (b ∷ bytes)
     else Ok (b, bytes)
 
@@ -38,12 +39,12 @@ escaped_at (b ∷ bytes) =
 unfoldable pub goes_on_at : Bool → ℕ → List ℕ → Result Bool LocalFault
 goes_on_at quoted depth [] = if quoted then syntax [] else Ok false
 goes_on_at quoted depth (b ∷ bytes) =
-    if b == 0 || (quoted && b == 10) then syntax (b ∷ bytes)
+    if b == 0 || (quoted && b == ascii.line_feed) then syntax (b ∷ bytes)
     else if path_ends quoted depth (b ∷ bytes) then Ok false
-    else if is_open_brace b && nat_le max_depth depth then fault_here kinds.Depth (b ∷ bytes)
+    else if is_open_brace b && nat_le most_nested depth then fault_here kinds.Depth (b ∷ bytes)
     else if is_close_brace b && (depth == 0) then fault_here kinds.Group (b ∷ bytes)
-    else if b == 64 && begins is_open_brace bytes then fault_here (kinds.LeftOut 2) (b ∷ bytes)
-    else if b == 92 then (escaped_at bytes >>= λ _. Ok true)
+    else if b == ascii.at_sign && begins is_open_brace bytes then fault_here (kinds.LeftOut 2) (b ∷ bytes)
+    else if b == ascii.backslash then (escaped_at bytes >>= λ _. Ok true)
     else Ok true
 
 -- a plain slash is here, by itself or after a backslash, or the path ends
@@ -61,12 +62,12 @@ token_at quoted depth after_slash (b ∷ bytes) =
       after
           is_star bytes,
     )
-    else if b == 63 then Ok (any_byte, bytes)
-    else if b == 91 then (class_at quoted (length (b ∷ bytes)) bytes >>= λ x. Ok (bracket x.0.0 x.0.1, x.1))
+    else if b == ascii.question_mark then Ok (any_byte, bytes)
+    else if b == ascii.open_bracket then (class_at quoted (length (b ∷ bytes)) bytes >>= λ x. Ok (bracket x.0.0 x.0.1, x.1))
     else if is_open_brace b then Ok (opening, bytes)
     else if is_close_brace b then Ok (closing, bytes)
     else if is_comma b && not (depth == 0) then Ok (between, bytes)
-    else if b == 92 then (escaped_at bytes >>= λ x. Ok (byte x.0, x.1))
+    else if b == ascii.backslash then (escaped_at bytes >>= λ x. Ok (byte x.0, x.1))
     else Ok (byte b, bytes)
 
 -- the open braces after a token, which begins with `left` bytes left
@@ -98,12 +99,12 @@ tokens_at quoted (suc room) braces after_slash bytes =
 -- there is no byte here that could be a path's first
 abbrev pub no_byte : Bool → List ℕ → Bool
 no_byte quoted [] = true
-no_byte quoted (b ∷ bytes) = b == 0 || (quoted && b == 10)
+no_byte quoted (b ∷ bytes) = b == 0 || (quoted && b == ascii.line_feed)
 
 -- a path without its quotes; it begins with a slash
 unfoldable pub path_in : Bool → List ℕ → Result (List Token × List ℕ) LocalFault
 path_in quoted bytes =
-    if begins is_slash bytes then tokens_at quoted max_items [] false bytes
+    if begins is_slash bytes then tokens_at quoted most_items [] false bytes
     else if no_byte quoted bytes then syntax bytes
     else fault_here kinds.NotAbsolute bytes
 

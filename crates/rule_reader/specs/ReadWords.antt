@@ -2,11 +2,12 @@
 use Rattle.std.specs.Prelude.{ℕ, zero, suc, List, [], ◌∷◌, length, codes, Result, Ok, Bool, true, false, not, ◌&&◌, ◌||◌, ◌==◌}
 use Rattle.std.specs.Prelude.{if◌then◌else◌}
 use Rattle.std.specs.Str.{bytes_eq}
-use Rattle.rule_reader.specs.declared.reading.name.NameByte.{NameByte}
-use Rattle.rule_reader.specs.declared.reading.name.NameByte.TheVariants.{OfName, Ends, Wrong}
-use Rattle.rule_reader.specs.declared.reading.local_fault.FaultKind.{FaultKind}
-use Rattle.rule_reader.specs.declared.reading.local_fault.FaultKind.TheVariants as kinds
-use Rattle.rule_reader.specs.declared.reading.local_fault.LocalFault.{LocalFault}
+use Rattle.names.specs.Ascii as ascii
+use Rattle.rule_reader.specs.declared.reader.name.NameByte.{NameByte}
+use Rattle.rule_reader.specs.declared.reader.name.NameByte.TheVariants.{OfName, Ends, Wrong}
+use Rattle.rule_reader.specs.declared.reader.local_fault.FaultKind.{FaultKind}
+use Rattle.rule_reader.specs.declared.reader.local_fault.FaultKind.TheVariants as kinds
+use Rattle.rule_reader.specs.declared.reader.local_fault.LocalFault.{LocalFault}
 use Rattle.rule_reader.specs.ReadSteps.{◌>>=◌, fault_here, fault_with_left, syntax}
 use Rattle.rule_reader.specs.TextBytes.{begins, is_white, is_hash, opens_blank, is_include, is_letter_byte, is_word_byte, is_quote}
 
@@ -27,7 +28,7 @@ after test (b ∷ bytes) = if test b then after test bytes else b ∷ bytes
 -- within a comment, or outside one. A comment ends before the next LF or at the text's end
 abbrev pub blank_at : Bool → List ℕ → Result (List ℕ) LocalFault
 blank_at comment [] = Ok []
-blank_at true (b ∷ bytes) = if b == 0 then syntax (b ∷ bytes) else blank_at (not (b == 10)) bytes
+blank_at true (b ∷ bytes) = if b == 0 then syntax (b ∷ bytes) else blank_at (not (b == ascii.line_feed)) bytes
 blank_at false (b ∷ bytes) =
     if is_white b then blank_at false bytes
     else if is_hash b then (if is_include (b ∷ bytes) then fault_here (kinds.LeftOut 8) (b ∷ bytes) else blank_at true bytes)
@@ -74,7 +75,7 @@ word_left_out bytes = fault_of_word (kinds.LeftOut (length (word bytes))) bytes
 -- bare name ends before white and has no quote; one in quotes ends before the next quote.
 abbrev pub name_byte : Bool → Bool → ℕ → NameByte
 name_byte quoted escaped b =
-    if b == 0 || (b == 10 && (quoted || escaped)) then Wrong
+    if b == 0 || (b == ascii.line_feed && (quoted || escaped)) then Wrong
     else if escaped then OfName
     else if is_quote b then (if quoted then Ends else Wrong)
     else if not quoted && is_white b then Ends
@@ -90,7 +91,7 @@ name_bytes quoted first escaped zero (b ∷ bytes) = elim (name_byte quoted esca
   | Wrong ↦ syntax (b ∷ bytes)
 ]
 name_bytes quoted first escaped (suc room) (b ∷ bytes) = elim (name_byte quoted escaped b) [
-  | OfName ↦ name_bytes quoted first (not escaped && b == 92) room bytes >>= λ x. Ok (b ∷ x.0, x.1)
+  | OfName ↦ name_bytes quoted first (not escaped && b == ascii.backslash) room bytes >>= λ x. Ok (b ∷ x.0, x.1)
   | Ends ↦ Ok ([], b ∷ bytes)
   | Wrong ↦ syntax (b ∷ bytes)
 ]

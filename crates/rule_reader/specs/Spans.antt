@@ -1,12 +1,12 @@
 -- Where the rules of a text are in it.
 use Rattle.std.specs.Prelude.{◌≡◌, ◌<◌, ◌≤◌, ℕ, zero, suc, ◌-◌, List, [], ◌∷◌, length, drop, Ok, Err, if◌then◌else◌}
 use Rattle.rule_profile.specs.declared.profile.Span.{Span}
-use Rattle.rule_profile.specs.Limits.{max_rules}
+use Rattle.rule_profile.specs.Limits.{most_rules}
 use Rattle.rule_profile.specs.Profile.{RuleValue}
 use Rattle.rule_reader.specs.ReadHeader.{header_at}
 use Rattle.rule_reader.specs.ReadSteps.{◌>>=◌}
 use Rattle.rule_reader.specs.ReadWords.{blank}
-use Rattle.rule_reader.specs.Reading.{rule_at}
+use Rattle.rule_reader.specs.ReadText.{rule_at}
 use Rattle.rule_reader.specs.TextBytes.{begins, is_close_brace}
 
 -- in a text of n bytes, from where `from` is left to where `past` is left
@@ -28,7 +28,7 @@ spans_at n (suc room) bytes =
 unfoldable pub spans_of : List ℕ → List Span
 spans_of text = elim (blank text >>= λ from. header_at from >>= λ name. blank name.1) [
   | Err s ↦ []
-  | Ok inside ↦ spans_at (length text) max_rules inside
+  | Ok inside ↦ spans_at (length text) most_rules inside
 ]
 
 -- Read from the span's start on, the text is read as this rule, up to the span's end.

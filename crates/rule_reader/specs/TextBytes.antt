@@ -2,6 +2,7 @@
 use Rattle.std.specs.Prelude.{ℕ, Bool, false, List, [], ◌∷◌, codes, not, ◌&&◌, ◌||◌, ◌==◌, drop, nat_eq}
 use Rattle.std.specs.Char.{is_ascii_alphabetic, is_ascii_alphanumeric}
 use Rattle.std.specs.List.{starts_with}
+use Rattle.names.specs.Ascii as ascii
 
 -- the first byte passes the test
 abbrev pub begins : (ℕ → Bool) → List ℕ → Bool
@@ -10,11 +11,11 @@ begins test (b ∷ bytes) = test b
 
 -- space, tab, LF, CR
 abbrev pub is_white : ℕ → Bool
-is_white b = b == 32 || b == 9 || b == 10 || b == 13
+is_white b = b == ascii.space || b == ascii.tab || b == ascii.line_feed || b == ascii.carriage_return
 
 -- #
 abbrev pub is_hash : ℕ → Bool
-is_hash b = b == 35
+is_hash b = b == ascii.number_sign
 
 -- white, or the # that opens a comment
 abbrev pub opens_blank : ℕ → Bool
@@ -22,7 +23,7 @@ opens_blank b = is_white b || is_hash b
 
 -- a byte that makes the word #include before it more than a comment: space, tab, < or "
 abbrev pub is_include_mark : ℕ → Bool
-is_include_mark b = b == 32 || b == 9 || b == 60 || b == 34
+is_include_mark b = b == ascii.space || b == ascii.tab || b == ascii.less_than || b == ascii.quote
 
 -- #include and such a byte
 abbrev pub is_include : List ℕ → Bool
@@ -34,26 +35,26 @@ is_letter_byte b = is_ascii_alphabetic b
 
 -- an ASCII letter or digit, or _
 abbrev pub is_word_byte : ℕ → Bool
-is_word_byte b = is_ascii_alphanumeric b || b == 95
+is_word_byte b = is_ascii_alphanumeric b || b == ascii.underscore
 
 -- "
 abbrev pub is_quote : ℕ → Bool
-is_quote b = b == 34
+is_quote b = b == ascii.quote
 
 abbrev pub is_comma : ℕ → Bool
-is_comma b = b == 44
+is_comma b = b == ascii.comma
 
 -- *
 abbrev pub is_star : ℕ → Bool
-is_star b = b == 42
+is_star b = b == ascii.asterisk
 
 -- {
 abbrev pub is_open_brace : ℕ → Bool
-is_open_brace b = b == 123
+is_open_brace b = b == ascii.open_brace
 
 -- }
 abbrev pub is_close_brace : ℕ → Bool
-is_close_brace b = b == 125
+is_close_brace b = b == ascii.close_brace
 
 -- ->
 abbrev pub is_arrow : List ℕ → Bool
@@ -65,4 +66,4 @@ ends_behind_comma b = is_white b || is_hash b || is_close_brace b || is_quote b 
 
 -- What may follow a backslash in a path: neither LF nor byte 0, and no letter or digit, which would be a character code.
 abbrev pub is_escapable : ℕ → Bool
-is_escapable b = not (b == 0 || b == 10 || is_ascii_alphanumeric b)
+is_escapable b = not (b == 0 || b == ascii.line_feed || is_ascii_alphanumeric b)

@@ -7,10 +7,10 @@
 #![tactic(auto)]
 
 mod fault;
-mod reading;
+mod reader;
 
 pub use fault::ReadFault;
-pub use reading::{
+pub use reader::{
     one_outcome, profiles_can_be_read, read, read_path, settled_faults_stay, spans_are_read_again,
 };
 pub use rule_profile::{Profile, Rule, Span};

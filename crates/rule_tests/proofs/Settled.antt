@@ -6,8 +6,8 @@ use Rattle.rule_reader.specs.ReadHeader.{slash_name_at, name_at, attachment_at, 
 use Rattle.rule_reader.specs.ReadWords.{name_bytes, name_in, quoted_name}
 use Rattle.rule_reader.specs.ReadClasses.{members_at, class_at}
 use Rattle.rule_reader.specs.ReadPaths.{goes_on_at, token_at, tokens_at, path_in, path_at}
-use Rattle.rule_reader.specs.Reading.{perms_at, perms_behind, first_word_at, qualifier_at, start_at, rule_begins, comma_at}
-use Rattle.rule_reader.specs.Reading.{body_at, rule_at, rules_at, text_at}
+use Rattle.rule_reader.specs.ReadText.{perms_at, perms_behind, first_word_at, qualifier_at, start_at, rule_begins, comma_at}
+use Rattle.rule_reader.specs.ReadText.{body_at, rule_at, rules_at, text_at}
 use Rattle.rule_reader.specs.ReadFaults.{IsSettled}
 use Rattle.rule_tests.specs.Settled.{settled_fronts, unsettled_fronts}
 

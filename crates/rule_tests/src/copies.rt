@@ -1,7 +1,7 @@
 //! Copies of paths and of items, by the canonical texts of rules on them.
 use names::{NoMemory, Permission, Perms, RuleKind};
-use profile_parts::{copy_of, path_of, put_copies};
 use rule_globs::{Item, RulePath};
+use rule_making::{copy_of, path_of, put_copies};
 use rule_profile::Rule;
 use rule_reader::read_path;
 use rule_text::write_rule;
@@ -16,7 +16,7 @@ fn copy_of_text(alloc: Global, text: &[u8]) -> Result<Option<RulePath>, NoMemory
     }
 }
 
-/// The rule that allows to read what the path takes.
+/// The rule that allows to read what the path matches.
 fn text_of(alloc: Global, path: RulePath) -> Result<Vec<u8>, NoMemory> {
     let read = Perms::NONE.with(Permission::Read);
     write_rule(alloc, &Rule::new(RuleKind::Allow, read, path))

@@ -1,5 +1,5 @@
 //! Error numbers as they are printed.
-use crate::printing::is_printed;
+use crate::print::is_printed;
 use names::{Errno, NoMemory};
 use std::test::Fail;
 

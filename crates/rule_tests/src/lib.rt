@@ -1,5 +1,5 @@
-//! Tests of calls that no text of `text_cases` reaches, in the libraries that it covers. A library with tests of its own would
-//! be proved twice, once with them; with the tests in this crate, each of these libraries is proved once.
+//! Tests of calls that no text of `text_cases` reaches, in the libraries that it covers, and of `rule_influence`. A library with tests
+//! of its own would be proved twice, once with them; with the tests in this crate, each of these libraries is proved once.
 #![tactic(auto)]
 
 #[cfg(test)]
@@ -17,19 +17,23 @@ mod errors;
 #[cfg(test)]
 mod fronts;
 #[cfg(test)]
-mod linking;
+mod influence;
+#[cfg(test)]
+mod links;
 #[cfg(test)]
 mod permissions;
 #[cfg(test)]
 mod plain;
 #[cfg(test)]
-mod printing;
+mod print;
 #[cfg(test)]
 mod profiles;
 #[cfg(test)]
 mod records;
 #[cfg(test)]
 mod rows;
+#[cfg(test)]
+mod stand_ins;
 #[cfg(test)]
 mod subjects;
 #[cfg(test)]

@@ -1,5 +1,5 @@
 //! Sets of permissions, and their letters.
-use crate::printing::is_printed;
+use crate::print::is_printed;
 use names::{Permission, Perms};
 use std::alloc::Global;
 use std::process::Abort;

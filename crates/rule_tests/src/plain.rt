@@ -11,7 +11,7 @@ struct Cursor {
     reached: bool,
 }
 
-/// Whether the items take all the bytes. `live` has a flag for each place, none of which is set.
+/// Whether the items match all the bytes. `live` has a flag for each place, none of which is set.
 pub(crate) fn takes(items: &[Item], bytes: &[u8], live: &mut [bool]) -> bool {
     let start = Cursor {
         place: 0,

@@ -1,6 +1,6 @@
 //! Profiles made of parts.
 use names::{Perms, RuleKind};
-use profile_parts::{path_of, profile_of};
+use rule_making::{path_of, profile_of};
 use rule_profile::Rule;
 use rule_reader::read_path;
 use std::alloc::Global;

@@ -1,5 +1,5 @@
 //! Verdicts of records that no profile has, and faults of compiling.
-use crate::printing::is_printed;
+use crate::print::is_printed;
 use glob_automaton::{CompileFault, LeastHits, Record, told};
 use names::{Permission, Perms};
 use rule_text::Verdict;

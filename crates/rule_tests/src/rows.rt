@@ -1,7 +1,7 @@
 //! Rows of an automaton, read as ranges and as the targets of all bytes, and the order of its states.
 ghost use Rattle.std.specs.Prelude.{◌<◌, length};
 
-use automata::head;
+use automaton_rows::head;
 use glob_automaton::{Dfa, compile};
 use rule_reader::read;
 use std::alloc::Global;

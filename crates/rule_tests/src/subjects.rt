@@ -1,8 +1,8 @@
 //! What restating rules changes. To whom a rule applies follows apparmor_parser's tables, which keep the owner's permissions
 //! separate from the others'.
+use apparmor_rules::{AppliesTo, Effect, Extent, Mode, RuleShape, Subject, restated_perms};
 use names::{Permission, Perms, RuleKind};
 use std::test::Fail;
-use subject_rules::{AppliesTo, Change, Effect, Mode, RuleShape, Subject, restated_perms};
 
 fn allow(applies_to: AppliesTo, letters: &str) -> Result<RuleShape, Fail> {
     Ok(RuleShape {
@@ -41,7 +41,7 @@ fn link_to_a_target_is_left_out(rt: HostRuntime) -> Result<(), Fail> {
 fn a_strict_restating_is_for_the_chosen_subject(rt: HostRuntime) -> Result<(), Fail> {
     let owners = allow(AppliesTo::Owners, "rw")?;
     assert!(rt; Effect::of(Subject::Owner, owners).is_strictly_exact());
-    assert!(rt; owners.change(Subject::Owner, Subject::Owner.other()) == Change::Wider);
+    assert!(rt; owners.change(Subject::Owner, Subject::Owner.other()) == Extent::Wider);
     assert!(rt; !Effect::of(Subject::Owner, unread(owners)).is_strictly_exact());
     assert!(rt; !AppliesTo::Owners.applies_to(Subject::Other));
     Ok(())
@@ -53,7 +53,7 @@ fn qualifier_and_target_are_told_apart(rt: HostRuntime) -> Result<(), Fail> {
     let whole = Effect::of(Subject::Owner, both);
     let qualifier = Effect::of(Subject::Owner, both.qualifier_alone()).to_string(rt.alloc())?;
     let target = Effect::of(Subject::Owner, both.for_everybody()).to_string(rt.alloc())?;
-    assert!(rt; whole.on_chosen == Change::Narrower && whole.on_other == Change::Wider);
+    assert!(rt; whole.on_chosen == Extent::Narrower && whole.on_other == Extent::Wider);
     assert!(rt; qualifier.as_str() == "wider for others", "{qualifier}");
     assert!(rt; target.as_str() == "narrower", "{target}");
     Ok(())

@@ -1,5 +1,5 @@
 //! Lists of many variables, and texts that are long, or too long.
-use profile_variables::{ExpandFault, Lists, Variable};
+use apparmor_variables::{ExpandFault, Lists, Variable};
 use std::alloc::Global;
 use std::test::Fail;
 

@@ -1,5 +1,5 @@
 //! The words of permissions of a rule: append and write conflict, and `all` at a rule's start is a rule of its own.
-use crate::printing::is_printed;
+use crate::print::is_printed;
 use names::{Perms, RuleKind};
 use rule_reader::{Profile, ReadFault, read};
 use rule_text::write_rule;

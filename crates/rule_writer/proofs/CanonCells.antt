@@ -111,13 +111,13 @@ class_cell_no_caret b =
 
 -- ---- of a name
 
--- directly behind a backslash or not
+-- directly after a backslash or not
 abbrev pub name_cells : Bool → List ℕ → List Cell
 name_cells behind [] = []
 name_cells true (b ∷ bytes) = escaped b ∷ name_cells false bytes
 name_cells false (b ∷ bytes) = cond (b == 92) (name_cells true bytes) (plain b ∷ name_cells false bytes)
 
--- a backslash that stands before these bytes
+-- a backslash before these bytes
 abbrev backslash : Bool → List ℕ → List ℕ
 backslash behind bytes = cond behind (92 ∷ bytes) bytes
 

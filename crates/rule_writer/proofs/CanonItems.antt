@@ -95,7 +95,7 @@ items_stand after_slash depth (t ∷ tokens) h =
 
 -- ---- they are valid
 
--- no star stands where no run begins
+-- there is no star where no run begins
 no_star : (tokens : List Token) → readable.begins_with_run tokens ≡ false →
     next_is is_star (first_byte (print_items (map canonical_item tokens))) ≡ false
 no_star [] h = refl

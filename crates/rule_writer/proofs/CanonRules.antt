@@ -1,4 +1,4 @@
--- The text of one rule: it is written in the grammar, is read again, and stands in the rule's line.
+-- The text of one rule: it is written in the grammar, is read again, and is in the rule's line.
 use Rattle.std.proofs.Common.{◌≡◌, ℕ, true, List, [], ◌∷◌, ◌++◌, map, Ok, ap, ◌∙◌, sym, append_assoc}
 use Rattle.std.specs.Prelude.{codes}
 use Rattle.std.specs.List.{flat_map}
@@ -8,7 +8,7 @@ use Rattle.rule_reader.specs.Grammar.{print_qualifier, print_rule}
 use Rattle.rule_reader.specs.GrammarPaths.{print_items}
 use Rattle.rule_profile.specs.Profile.{RuleValue}
 use Rattle.rule_profile.specs.Readable.{is_rule}
-use Rattle.rule_reader.specs.Reading.{rule_at}
+use Rattle.rule_reader.specs.ReadText.{rule_at}
 use Rattle.rule_reader.proofs.AgainRules.{rule_again}
 use Rattle.rule_writer.specs.Canonical.{token_text, kind_text, qualifier_text, rule_line, rule_text}
 use Rattle.rule_writer.proofs.CanonItems.{canonical_item, items_print}
@@ -33,7 +33,7 @@ text_prints r =
       | Deny ↦ ap (λ (x : List ℕ). codes "deny " ++ x) body
     ]
 
--- what a rule that can be read is written as is read as it, whatever stands behind
+-- what a rule that can be read is written as is read as it, whatever follows
 pub text_again : (r : RuleValue) (more : List ℕ) → is_rule r ≡ true → rule_at (rule_text r ++ more) ≡ Ok (r, more)
 text_again r more h =
     ap (λ (x : List ℕ). rule_at (x ++ more)) (sym (text_prints r))

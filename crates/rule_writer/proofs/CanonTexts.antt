@@ -38,7 +38,7 @@ some_cell : (cells : List Cell) (b : ℕ) (bytes : List ℕ) → print_cells cel
 some_cell [] b bytes e = absurd cc
 some_cell (c ∷ cells) b bytes e = omega arith
 
--- no colon stands first
+-- no colon is first
 first_cell : (cells : List Cell) (b : ℕ) (bytes : List ℕ) → print_cells cells ≡ b ∷ bytes → (b == 58) ≡ false → IsFirst true cells
 first_cell [] b bytes e h = absurd cc
 first_cell (plain a ∷ cells) b bytes e h =
@@ -88,7 +88,7 @@ perms_word s h fine = (some_letter (has s) all_permissions h, letters_again s, f
 
 -- ---- rules
 
--- LF, and two spaces if a rule is behind it
+-- LF, and two spaces if a rule follows
 abbrev pub line_end : List RuleValue → List Piece
 line_end [] = white 10 ∷ []
 line_end (r ∷ rules) = white 10 ∷ white 32 ∷ white 32 ∷ []
@@ -174,7 +174,7 @@ same_length (r ∷ rules) = ap (λ (n : ℕ). suc n) (same_length rules)
 
 -- ---- the bytes of rules
 
--- a line's parts, regrouped: the path's items, the letters and what stands behind the LF
+-- a line's parts, regrouped: the path's items, the letters and what follows the LF
 line_parts : (items letters behind : List ℕ) → ((34 ∷ (items ++ 34 ∷ []) ++ (32 ∷ letters)) ++ 44 ∷ []) ++ 10 ∷ behind
     ≡ (34 ∷ (items ++ (34 ∷ 32 ∷ (letters ++ 44 ∷ 10 ∷ [])))) ++ behind
 line_parts items letters behind = simp append_assoc
@@ -196,7 +196,7 @@ rule_prints r rules behind =
       | Deny ↦ ap (λ (x : List ℕ). codes "  deny " ++ x) line
     ]
 
--- what stands behind the opening brace
+-- what follows the opening brace
 rules_print : (rules : List RuleValue) (behind : List ℕ) → print_blank (line_end rules) ++ (print_rules (canonical_rules rules) ++ behind)
     ≡ 10 ∷ (flat_map rule_line rules ++ behind)
 rules_print [] behind = refl

@@ -18,7 +18,7 @@ use Rattle.rule_globs.proofs.TokenItems.{tokens-Group}
 abbrev pub items_parts : List (Vec Item Global) → List (List Token)
 items_parts alternatives = map (λ items. tokens_of items.items) alternatives
 
--- the text of alternatives: a comma stands before each but the first
+-- the text of alternatives: a comma is before each except the first
 abbrev pub parts_text : Bool → List (List Token) → List ℕ
 parts_text true parts = flat_map token_text (with_commas parts)
 parts_text false [] = []

@@ -1,6 +1,7 @@
 -- The canonical text of a profile: one way to write each.
 use Rattle.std.specs.Prelude.{ℕ, List, [], ◌∷◌, ◌++◌, codes, ◌==◌, if◌then◌else◌}
 use Rattle.std.specs.List.{list_any, flat_map}
+use Rattle.names.specs.Ascii as ascii
 use Rattle.names.specs.Permissions.{letters}
 use Rattle.rule_globs.specs.declared.items.ByteRange.{ByteRange}
 use Rattle.names.specs.declared.kind.RuleKind.{RuleKind}
@@ -9,9 +10,9 @@ use Rattle.rule_reader.specs.Grammar.{ReadsAs}
 use Rattle.rule_profile.specs.Profile.{RuleValue, ProfileValue}
 use Rattle.rule_globs.specs.Tokens.{Token, byte, any_byte, bracket, stars, opening, between, closing}
 
--- the byte, behind a backslash (92) if it is one of these
+-- the byte, after a backslash if it is one of these
 abbrev pub escaped_among : List ℕ → ℕ → List ℕ
-escaped_among special b = if list_any (λ s. s == b) special then 92 ∷ b ∷ [] else b ∷ []
+escaped_among special b = if list_any (λ s. s == b) special then ascii.backslash ∷ b ∷ [] else b ∷ []
 
 -- a range of one is its byte
 abbrev pub range_text : ByteRange → List ℕ

@@ -3,7 +3,7 @@ ghost use Rattle.std.specs.Prelude.{◌≡◌, ◌↔◌, ◌++◌, ℕ, List, O
 ghost use Rattle.rule_reader.specs.Grammar.{ReadsAs};
 ghost use Rattle.rule_profile.specs.Profile.{RuleValue, ProfileValue};
 ghost use Rattle.rule_profile.specs.Readable.{is_profile, is_rule};
-ghost use Rattle.rule_reader.specs.Reading.{rule_at};
+ghost use Rattle.rule_reader.specs.ReadText.{rule_at};
 ghost use Rattle.rule_writer.specs.Canonical.{canonical, rule_line, rule_text, CanBeRead};
 
 use rule_reader::{one_outcome, profiles_can_be_read};
@@ -18,7 +18,7 @@ pub fn canonical_texts_are_read()
     profiles_can_be_read();
 }
 
-/// The text of a rule that can be read is read as that rule, whatever stands behind it. In a canonical text it stands in a line.
+/// The text of a rule that can be read is read as that rule, whatever follows it. In a canonical text it is on a line.
 pub fn rule_texts_are_read()
     ensures again { (r : RuleValue) (more : List ℕ) → IsTrue (is_rule r) → rule_at (rule_text r ++ more) ≡ Ok (r, more) }
     ensures line { (r : RuleValue) → rule_line r ≡ codes "  " ++ (rule_text r ++ codes "\n") }

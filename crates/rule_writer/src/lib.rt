@@ -4,7 +4,7 @@
 #![tactic(auto)]
 
 mod laws;
-mod writing;
+mod writer;
 
 pub use laws::{canonical_texts_are_read, rule_texts_are_read};
-pub use writing::{write, write_rule};
+pub use writer::{write, write_rule};

@@ -2,9 +2,9 @@
 ghost use Rattle.std.specs.Prelude.{◌≡◌, ◌≤◌, ◌+◌};
 ghost use mathlib.Core.List.{IsPrefix};
 
-use crate::testing::{
-    FILE, Row, TREE, allowed, apply, compiled, expect_beside, expect_with, failed, first_session,
-    judged, new_publisher, opened, path, perms, publish, select, unjudged,
+use crate::fixtures::{
+    FILE, Row, TREE, allowed, expect_beside, expect_with, failed, first_session, judged, opened,
+    publish, unjudged,
 };
 use dentry_cache::Keeper;
 use directory_tree::Change;
@@ -16,6 +16,8 @@ use std::alloc::Global;
 use std::process::Abort;
 use std::sync::Wait;
 use std::test::Fail;
+use storm_parts::{apply, compiled, new_publisher, select};
+use test_parts::{path, perms};
 
 /// How many verdicts a session keeps.
 const KEPT: usize = 64;
@@ -36,7 +38,7 @@ fn expect_kept(
     Ok(())
 }
 
-// The same with the keeper at hand.
+// The same with the keeper held exclusively.
 fn expect_kept_here(
     rt: &impl Abort,
     session: &mut Session,
@@ -183,7 +185,7 @@ fn open_by_slashes(session: &mut Session, most: usize) -> Result<u64, Fail>
     Ok(session.kept_answers().wrapping_sub(before))
 }
 
-// As many questions as are kept are found again; of one more, by turns, none at first, and then some.
+// As many questions as are kept are found again; of one more, in turn, none at first, and then some.
 fn fill<R: Abort + Wait>(rt: &R, alloc: Global, publisher: &mut Publisher) -> Result<(), Fail> {
     let (_keeper, mut session) = first_session(rt, alloc, publisher, b"p")?;
     assert_eq!(rt; open_by_slashes(&mut session, KEPT)?, 0);
@@ -202,8 +204,8 @@ fn the_last_ones_are_kept(rt: HostRuntime) -> Result<(), Fail> {
     outcome
 }
 
-// With the publisher at hand, too, what was kept is found, also what was kept without it; if another policy was read without it,
-// nothing is kept any longer.
+// With the publisher held exclusively, too, what was kept is found, also what was kept without it; if another policy was read
+// without it, nothing is kept any longer.
 fn expect_with_both<R: Abort + Wait>(
     rt: &R,
     alloc: Global,

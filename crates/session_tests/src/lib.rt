@@ -1,8 +1,8 @@
-//! Tests of `path_session` and `session_bench`, and nothing else: as they are in their own crate, each library is proved once.
+//! Tests of `path_session`, and nothing else: as they are in their own crate, the library is proved once.
 #![tactic(auto)]
 
 #[cfg(test)]
-mod benches;
+mod fixtures;
 #[cfg(test)]
 mod kept;
 #[cfg(test)]
@@ -15,7 +15,5 @@ mod order;
 mod replaced;
 #[cfg(test)]
 mod seats;
-#[cfg(test)]
-mod testing;
 #[cfg(test)]
 mod threads;

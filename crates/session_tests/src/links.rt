@@ -1,9 +1,8 @@
 //! Hard links, made and not made.
 ghost use Rattle.std.specs.Prelude.{◌≡◌};
 
-use crate::testing::{
-    FILE, TREE, expect_beside, expect_with, failed, first_session, judged, new_publisher, opened,
-    perms, select, unjudged,
+use crate::fixtures::{
+    FILE, TREE, expect_beside, expect_with, failed, first_session, judged, opened, unjudged,
 };
 use dentry_cache::Keeper;
 use names::{Errno, Perms};
@@ -14,6 +13,8 @@ use std::alloc::Global;
 use std::process::Abort;
 use std::sync::Wait;
 use std::test::Fail;
+use storm_parts::{new_publisher, select};
+use test_parts::perms;
 
 // Makes a link. If an allocation fails nothing is made, and the link is requested again.
 fn link(

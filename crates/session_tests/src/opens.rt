@@ -1,10 +1,9 @@
-//! Opens concurrently with a keeper that is at rest, and with the keeper at hand.
+//! Opens concurrently with a keeper that is at rest, and with the keeper held exclusively.
 ghost use Rattle.std.specs.Prelude.{◌≡◌};
 
-use crate::testing::{
-    FILE, Row, TREE, allowed, apply, compiled, expect_beside, expect_with, failed, first_keeper,
-    first_session, judged, new_publisher, opened, path, perms, publish, publish_first, select,
-    sessions_of, unjudged,
+use crate::fixtures::{
+    FILE, Row, TREE, allowed, expect_beside, expect_with, failed, first_session, judged, open_each,
+    opened, publish, publish_first, unjudged,
 };
 use dentry_cache::Keeper;
 use directory_tree::Change;
@@ -16,20 +15,14 @@ use std::alloc::Global;
 use std::process::Abort;
 use std::sync::Wait;
 use std::test::Fail;
+use storm_parts::{apply, compiled, first_keeper, new_publisher, select, sessions_of};
+use test_parts::{path, perms};
 
 /// The number of sessions that share a keeper and a publisher.
 const SESSIONS: usize = 16;
 
 /// The number of times that each of them opens a file.
 const OPENS: usize = 1000;
-
-// The sessions open the file in turn.
-fn open_in_turn(rt: &impl Abort, sessions: &mut [Session]) -> Result<(), Fail> {
-    for session in sessions {
-        expect_beside(rt, session, &[allowed()])?;
-    }
-    Ok(())
-}
 
 fn open_quietly<R: Abort + Wait>(
     rt: &R,
@@ -40,7 +33,7 @@ fn open_quietly<R: Abort + Wait>(
     publish_first(rt, alloc, publisher)?;
     let mut sessions = sessions_of(alloc, &mut keeper, publisher, SESSIONS)?;
     for _ in 0..OPENS {
-        open_in_turn(rt, &mut sessions)?;
+        open_each(rt, &mut sessions)?;
     }
     Ok(())
 }
@@ -141,7 +134,7 @@ fn failures<'a>(long: &'a [u8]) -> [Row<'a>; 7] {
     ]
 }
 
-/// Opens concurrently with the keeper, and with it at hand.
+/// Opens concurrently with the keeper, and with it held exclusively.
 pub(crate) fn expect_both(
     rt: &impl Abort,
     session: &mut Session,

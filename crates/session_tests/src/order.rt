@@ -1,10 +1,7 @@
 //! Which answer takes precedence when there are several reasons not to judge.
 ghost use Rattle.std.specs.Prelude.{◌≡◌};
 
-use crate::testing::{
-    expect_beside, expect_with, first_keeper, first_session, new_publisher, path, perms, select,
-    session, unjudged,
-};
+use crate::fixtures::{expect_beside, expect_with, first_session, unjudged};
 use dentry_cache::Keeper;
 use directory_tree::Change;
 use path_session::{Answer, Session, Unanswered};
@@ -13,6 +10,8 @@ use std::alloc::Global;
 use std::process::Abort;
 use std::sync::Wait;
 use std::test::Fail;
+use storm_parts::{first_keeper, new_publisher, select, session};
+use test_parts::{path, perms};
 
 // What is opened: a file that would be judged, a file that doesn't exist, a loop of links, and a text that is no path.
 const PATHS: [&[u8]; 4] = [b"/d/f", b"/x", b"/r", b"d"];

@@ -2,11 +2,10 @@
 ghost use Rattle.std.specs.Prelude.{◌≡◌};
 ghost use mathlib.Core.List.{IsPrefix};
 
-use crate::opens::expect_both;
-use crate::testing::{
-    FILE, Row, TREE, compiled, expect_beside, first_session, new_publisher, opened, perms, publish,
-    publish_staged, select, unjudged,
+use crate::fixtures::{
+    FILE, Row, TREE, expect_beside, first_session, opened, publish, publish_staged, unjudged,
 };
+use crate::opens::expect_both;
 use dentry_cache::Keeper;
 use matcher::AnyProfile;
 use path_session::{Answer, LinkAnswer, Session};
@@ -16,6 +15,8 @@ use std::alloc::Global;
 use std::process::Abort;
 use std::sync::{Arc, Wait};
 use std::test::Fail;
+use storm_parts::{compiled, new_publisher, select};
+use test_parts::perms;
 
 // Two opens of the file by the policy of a version, which have the same answer.
 fn twice<'a>(verdict: Verdict, policy_version: u64) -> [Row<'a>; 2] {
@@ -135,7 +136,7 @@ fn wider_link(policy_version: u64) -> Result<LinkAnswer, Fail> {
     })
 }
 
-// The answer to such an open where the publisher is at hand and the file is allowed.
+// The answer to such an open where the publisher is held exclusively and the file is allowed.
 fn allowed_with_both(policy_version: u64) -> mediation::Answer {
     mediation::Answer::Judged {
         verdict: Verdict::Allowed,
@@ -145,7 +146,7 @@ fn allowed_with_both(policy_version: u64) -> mediation::Answer {
     }
 }
 
-// Opens and links by turns, with the publisher at hand and without it.
+// Opens and links in turn, with the publisher held exclusively and without it.
 fn expect_all(
     rt: &impl Abort,
     publisher: &mut Publisher,

@@ -2,10 +2,7 @@
 ghost use Rattle.std.specs.Prelude.{◌≡◌};
 ghost use mathlib.Core.List.{IsPrefix};
 
-use crate::testing::{
-    FILE, TREE, allowed, expect_beside, expect_with, first_keeper, new_publisher, perms,
-    publish_first, session, sessions_of,
-};
+use crate::fixtures::{FILE, TREE, allowed, expect_beside, expect_with, open_each, publish_first};
 use dentry_cache::Keeper;
 use mediation::Answer;
 use names::Errno;
@@ -16,13 +13,8 @@ use std::alloc::Global;
 use std::process::Abort;
 use std::sync::Wait;
 use std::test::Fail;
-
-fn open_each(rt: &impl Abort, sessions: &mut [Session]) -> Result<(), Fail> {
-    for session in sessions {
-        expect_beside(rt, session, &[allowed()])?;
-    }
-    Ok(())
-}
+use storm_parts::{first_keeper, new_publisher, session, sessions_of};
+use test_parts::perms;
 
 // All of them open, including the last one. When one ends, its place becomes free.
 fn fill<R: Abort + Wait>(rt: &R, alloc: Global, publisher: &mut Publisher) -> Result<(), Fail> {

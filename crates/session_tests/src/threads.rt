@@ -1,10 +1,7 @@
 //! A session concurrent with a keeper that is at work in another thread.
 ghost use Rattle.std.specs.Prelude.{◌≡◌};
 
-use crate::testing::{
-    FILE, apply, compiled, expect_with, judged, new_keeper, new_publisher, opened, path, perms,
-    publish, session,
-};
+use crate::fixtures::{FILE, expect_with, judged, opened, publish};
 use dentry_cache::Keeper;
 use directory_tree::Change;
 use matcher::PolicyChange;
@@ -17,6 +14,8 @@ use std::process::Abort;
 use std::sync::Wait;
 use std::test::Fail;
 use std::thread::{Threads, join};
+use storm_parts::{apply, compiled, new_keeper, new_publisher, session};
+use test_parts::{path, perms};
 
 /// The number of times that a directory is renamed, back and forth.
 const RENAMES: u64 = 600;

@@ -1,9 +1,9 @@
 //! The profiles that are published.
-use crate::drawing::Random;
 use matcher::{AnyProfile, CompiledProfile};
 use rule_reader::read;
 use std::alloc::{AllocError, Global};
 use std::sync::Arc;
+use test_parts::Random;
 
 /// The names that profiles are published under.
 #[derive(Clone, Copy)]
@@ -57,7 +57,7 @@ const COMPONENTS: [&str; 14] = [
     "**",
 ];
 
-// What they end in: often what takes many names.
+// What they end in: often what matches many names.
 const ENDS: [&str; 8] = ["/**", "/**", "/**", "/*", "/*", "/a", "/[b-d]", "/{e,?/a}"];
 
 const LETTERS: [&str; 8] = ["r", "w", "a", "ra", "rw", "rwk", "rwkm", "rwlkm"];
@@ -99,8 +99,8 @@ fn push_rule(text: &mut Vec<u8>, random: &mut Random) -> Result<(), AllocError> 
     Ok(text.extend_from_slice(b",\n")?)
 }
 
-// The profile of a text. Each text that is drawn is one, and a small one, so that only memory can be refused.
-fn compiled(alloc: Global, text: &[u8]) -> Result<Arc<AnyProfile>, AllocError> {
+/// The profile of a text. Each text that is drawn is one, and a small one, so that only memory can be refused.
+pub(crate) fn compiled(alloc: Global, text: &[u8]) -> Result<Arc<AnyProfile>, AllocError> {
     let Ok(profile) = read(alloc, text) else {
         return Err(AllocError);
     };

@@ -1,8 +1,7 @@
 //! What sessions may ask.
-use crate::drawing::Random;
-use crate::paths::NumberedPath;
 use names::{Permission, Perms};
 use std::alloc::{AllocError, Global};
+use test_parts::{NumberedPath, Random};
 
 // The number of paths that are opened.
 const PATHS: usize = 64;

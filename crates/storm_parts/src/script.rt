@@ -1,9 +1,9 @@
 //! The changes that a keeper tries.
 ghost use Rattle.std.specs.Prelude.{◌≡◌, ◌≤◌, ◌<◌};
 
-use crate::drawing::{DrawnChange, Random};
 use plain_tree::PlainTree;
 use std::alloc::{AllocError, Global};
+use test_parts::{DrawnChange, Random};
 
 // A plain tree would make one in ten or less of the changes that are drawn at random. So that most are made, it is asked about up
 // to this many.

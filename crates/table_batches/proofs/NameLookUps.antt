@@ -24,7 +24,7 @@ no_fewer t text offsets i (suc j) =
     let at : i + suc j ≡ suc (i + j) = omega arith in
     omega (arith, no_fewer t text offsets i j, ap (look_ups_of_names t text offsets) at)
 
--- one name more
+-- one more name
 pub one_more : (t : Table) (text offsets : List ℕ) (i : ℕ) → look_ups_of_names t text offsets (i + 1)
     ≡ look_ups_of_names t text offsets i + look_ups_after t (name_at text offsets i)
 one_more t text offsets i =

@@ -35,7 +35,7 @@ at_each text begins i k lt =
     eight (λ (j : ℕ). get_or (bytes_at text begins i) j 0 ≡ get_or text (get_or begins j 0 + i) 0) refl refl refl refl
     refl refl refl refl k lt
 
--- one byte more for each of eight
+-- one more byte for each of eight
 pub led_more : (t : Table) (text begins states reached after : List ℕ) (i : ℕ)
     → AreLed t text begins i states reached → AreNext t reached (bytes_at text begins i) after
     → ((k : ℕ) → k < 8 → get_or begins k 0 + i < length text) → AreLed t text begins (i + 1) states after

@@ -18,7 +18,7 @@ pub(crate) struct Seats {
     states: [State; 8],
 }
 
-/// The state in which a name has died: no rule takes it, whatever follows.
+/// The state in which a name has died: no rule matches it, whatever follows.
 const DEAD: State = 0;
 
 /// After this number of bytes the first eight names are looked at.

@@ -5,10 +5,10 @@ use Rattle.std.specs.Option.{option_and_then}
 use Rattle.std.proofs.lemmas.Bool.{cases_lt}
 use Rattle.std.proofs.lemmas.Bool.Decides.{eqb_tells}
 use Rattle.std.proofs.lemmas.Option.{slice_get-get_or}
-use Rattle.automata.specs.Automata.{Automaton, IsWhole, target, goes_to}
+use Rattle.automaton_rows.specs.Automata.{Automaton, IsWhole, target, goes_to}
 use Rattle.names.specs.Bytes.{are_bytes}
 use Rattle.table_image.specs.Chains.{source, IsChained}
-use Rattle.table_image.specs.Packing.{IsTableOf}
+use Rattle.table_image.specs.PackedTables.{IsTableOf}
 use Rattle.tables.specs.Tables.{Table, cell_of, default_of, depth_of, next_state, next_within, owns, record_of, state_count, state_from}
 
 pub source_there : (a : Automaton) (s : ℕ) → IsWhole a → source a s < length a.rows

@@ -3,7 +3,7 @@ use Rattle.std.proofs.Common.{◌≡◌, ◌≢◌, ◌⊎◌, inl, ⊎_elim, �
 use Rattle.std.proofs.Common.{sym, ap, ◌∙◌, arith}
 use Rattle.std.specs.List.{Contains}
 use Rattle.std.proofs.lemmas.Bool.{cases_lt}
-use Rattle.automata.specs.Automata.{Automaton, target}
+use Rattle.automaton_rows.specs.Automata.{Automaton, target}
 use Rattle.table_image.specs.Chains.{source}
 use Rattle.table_image.specs.inner.PackSteps.{AreOthers, without_cell}
 use Rattle.table_image.proofs.ChainedTables.{not_zero}

@@ -1,4 +1,4 @@
--- One state more is packed.
+-- One more state is packed.
 use Rattle.std.proofs.Common.{◌≡◌, ◌≢◌, ◌⊎◌, inl, inr, ⊎_elim, ℕ, zero, suc, ◌+◌, ◌*◌, ◌<◌, ◌≤◌, true, false, true≢false, List}
 use Rattle.std.proofs.Common.{[], ◌∷◌, ◌++◌, length, Some, slice_get, slice_index_or, refl, sym, ap, ap₂, ◌∙◌, arith}
 use Rattle.std.specs.List.{Contains}
@@ -8,14 +8,14 @@ use Rattle.std.proofs.lemmas.Bool.Decides.{eqb_tells}
 use Rattle.std.proofs.lemmas.List.{length-append, get_or_append_left, get_or_past}
 use Rattle.std.proofs.lemmas.List.Folds.{list_any_at}
 use Rattle.std.proofs.lemmas.Option.{slice_get_within}
-use Rattle.automata.specs.Automata.{Automaton, IsWhole, target}
+use Rattle.automaton_rows.specs.Automata.{Automaton, IsWhole, target}
 use Rattle.names.specs.declared.record.Record.{Record}
 use Rattle.tables.specs.Tables.{Table, default_of, depth_of}
 use Rattle.table_image.specs.Chains.{source}
 use Rattle.table_image.specs.inner.PackSteps.{IsRecordNumber}
 use Rattle.table_image.proofs.RecordNumbers.{no_fewer, record_kept}
 use Rattle.table_image.specs.declared.taken.Taken.{Taken}
-use Rattle.table_image.specs.inner.Taking.{is_taken, is_blocked}
+use Rattle.table_image.specs.inner.TakenCells.{is_taken, is_blocked}
 use Rattle.table_image.specs.inner.PackSteps.{free, without_cell, AreOthers, IsCell, IsPacked, IsPlaced}
 use Rattle.table_image.proofs.ChainedTables.{source_there}
 
@@ -302,7 +302,7 @@ module _ (a : Automaton) (whole : IsWhole a) (t : Table) (taken : Taken) (s : �
         (cell_or_not base bytes c);
   }
 
--- the tables with one state more
+-- the tables with one more state
 abbrev pub table_with : List ℕ → List ℕ → List ℕ → List ℕ → List ℕ → List Record → ℕ → List ℕ → Table
 table_with x y z next2 check2 records bound depth = record {
   default = x;

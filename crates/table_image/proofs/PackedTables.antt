@@ -5,7 +5,7 @@ use Rattle.std.specs.Option.{option_and_then}
 use Rattle.std.proofs.lemmas.Bool.{eqb-true}
 use Rattle.std.proofs.lemmas.Bool.Decides.{eqb_tells}
 use Rattle.std.proofs.lemmas.Option.{slice_get-get_or, slice_get_within, get_or_from_slice_get}
-use Rattle.automata.specs.Automata.{Automaton, target}
+use Rattle.automaton_rows.specs.Automata.{Automaton, target}
 use Rattle.tables.specs.Bounds.{InBounds, IsTooDeep}
 use Rattle.tables.specs.Tables.{Table, cell_of, default_of, depth_of, owns, record_of}
 use Rattle.table_image.specs.Chains.{source, IsChained, IsOnward}
@@ -47,11 +47,11 @@ module _ (a : Automaton) (t : Table) (taken : Taken) (states : ℕ) (two : 2 ≤
   bounds = record {
     limits = record {
       two_states = omega (arith, two, packed.defaults_long);
-      most_states = omega (arith, few, packed.defaults_long);
+      states_fit = omega (arith, few, packed.defaults_long);
       one_row = packed.one_row (omega (arith, two));
-      most_cells = omega (arith, few, packed.few_cells);
+      cells_fit = omega (arith, few, packed.few_cells);
       one_record = let one = packed.accept 0 (omega (arith, two)) in omega (arith, one);
-      most_records = omega (arith, few, packed.few_records);
+      records_fit = omega (arith, few, packed.few_records);
     };
     shaped = record {
       bases = packed.bases_long ∙ sym packed.defaults_long;

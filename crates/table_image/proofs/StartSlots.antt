@@ -7,8 +7,8 @@ use Rattle.std.proofs.lemmas.Grind.{get_or-set_at}
 use Rattle.std.proofs.lemmas.List.{get_or-set_other, length-set}
 use Rattle.table_image.specs.declared.taken.Taken.{Taken}
 use Rattle.table_image.specs.declared.starts.Slot.{Slot}
-use Rattle.table_image.specs.inner.Starting.{IsStartFor}
-use Rattle.table_image.specs.inner.Taking.{is_taken}
+use Rattle.table_image.specs.inner.FirstBases.{IsStartFor}
+use Rattle.table_image.specs.inner.TakenCells.{is_taken}
 use Rattle.table_image.proofs.TakenCells.{stays_blocked}
 
 get_either : (xs : List Slot) (x y : Slot) (i : ℕ) → slice_get (xs ++ x ∷ []) i ≡ Some y → (slice_get xs i ≡ Some y) ⊎ (x ≡ y)

@@ -11,7 +11,7 @@ use Rattle.std.proofs.lemmas.List.{get_or-set_other, get_or_past, take_more}
 use Rattle.std.proofs.lemmas.List.Folds.{list_any-append, list_any_none}
 use Rattle.table_image.specs.declared.taken.Taken.{Taken}
 use Rattle.std.proofs.lemmas.Nat.Bits.{bit_at_above, bit_at_set_same, bit_at_set_other}
-use Rattle.table_image.specs.inner.Taking.{is_bit, is_taken, is_blocked}
+use Rattle.table_image.specs.inner.TakenCells.{is_bit, is_taken, is_blocked}
 use Rattle.table_image.proofs.WordBits.{bits_zero, bits_or, bits_down, bits_up_low, bits_up_high}
 
 -- bit c of some words
@@ -42,7 +42,7 @@ window_of_two words low high index over i fits some within lt of_low of_high =
     ∙ of_high (i - (64 - over)) (omega (arith, lt, some)) ∙ ap (bit_in words) (omega (arith, le, within)))
     (cases_lt i (64 - over))
 
--- one bit more
+-- one more bit
 module _ (words : List ℕ) (cell : ℕ) (room : cell < 64 * length words) where
   word : ℕ
   word = cell / 64
@@ -92,7 +92,7 @@ more_words [] n i = none_in n i
 more_words (w ∷ words) n zero = refl
 more_words (w ∷ words) n (suc i) = more_words words n i
 
--- one byte more may block a base
+-- one more byte may block a base
 pub blocked_more : (taken : Taken) (bytes : List ℕ) (i base : ℕ) → i < length bytes →
     is_blocked taken (take (i + 1) bytes) base ≡ (is_blocked taken (take i bytes) base || is_taken taken (base + get_or bytes i 0))
 blocked_more taken bytes i base lt =

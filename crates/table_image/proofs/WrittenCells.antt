@@ -1,4 +1,4 @@
--- One cell more of a row is written.
+-- One more cell of a row is written.
 use Rattle.std.proofs.Common.{◌≡◌, ◌≢◌, ⊎_elim, ℕ, ◌+◌, ◌<◌, ◌==◌, ◌||◌, true, List, [], ◌∷◌, ◌++◌, length}
 use Rattle.std.proofs.Common.{slice_index_or, ap, ◌∙◌, arith}
 use Rattle.std.specs.List.{Contains}
@@ -9,7 +9,7 @@ use Rattle.std.proofs.lemmas.Grind.{get_or-set_at}
 use Rattle.std.proofs.lemmas.List.{get_or-set_other, length-set}
 use Rattle.std.proofs.lemmas.List.Elements.{Contains-append_left, Contains-push, Contains-push_cases}
 use Rattle.table_image.specs.declared.taken.Taken.{Taken}
-use Rattle.table_image.specs.inner.Taking.{is_taken}
+use Rattle.table_image.specs.inner.TakenCells.{is_taken}
 use Rattle.table_image.specs.inner.PackSteps.{IsWritten}
 
 module _ (next check : List ℕ) (taken : Taken) (next1 check1 : List ℕ) (taken1 taken2 : Taken) (targets bytes : List ℕ) (base state b : ℕ)

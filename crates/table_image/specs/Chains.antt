@@ -1,6 +1,6 @@
 -- Tables whose states lead on over chains of defaults. Where their cells are is left open.
 use Rattle.std.specs.Prelude.{◌≡◌, ◌⊎◌, ℕ, ◌-◌, ◌<◌, ◌≤◌, true, false, length, min, slice_get, Some}
-use Rattle.automata.specs.Automata.{Automaton, target}
+use Rattle.automaton_rows.specs.Automata.{Automaton, target}
 use Rattle.tables.specs.Bounds.{InBounds}
 use Rattle.tables.specs.Tables.{Table, cell_of, default_of, depth_of, owns, record_of, state_count}
 

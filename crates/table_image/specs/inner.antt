@@ -1,4 +1,4 @@
-pub mod Taking
-pub mod Starting
-pub mod Choosing
+pub mod TakenCells
+pub mod FirstBases
+pub mod DefaultChoice
 pub mod PackSteps

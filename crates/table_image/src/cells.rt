@@ -1,13 +1,13 @@
 //! The default of a row, and its cells.
 ghost use Rattle.std.specs.Prelude.{◌≡◌, ◌≢◌, ◌⊎◌, ℕ, List, ◌+◌, ◌*◌, ◌<◌, ◌≤◌, IfOk, OnOk, Contains};
 ghost use Rattle.std.specs.Prelude.{length, slice_index_or};
-ghost use Rattle.table_image.specs.inner.Taking.{is_taken, is_blocked};
-ghost use Rattle.automata.specs.Rows.{IsRowFrom, ends_at, target_in};
-ghost use Rattle.automata.specs.declared.range.TargetRange.{TargetRange};
+ghost use Rattle.table_image.specs.inner.TakenCells.{is_taken, is_blocked};
+ghost use Rattle.automaton_rows.specs.Rows.{IsRowFrom, ends_at, target_in};
+ghost use Rattle.automaton_rows.specs.declared.range.TargetRange.{TargetRange};
 ghost use Rattle.table_image.specs.inner.PackSteps.{AreOthers, IsWalk, IsWritten};
 
 use crate::taken::Taken;
-use automata::{TargetRange, head, rest_after};
+use automaton_rows::{TargetRange, head, rest_after};
 use std::alloc::{AllocError, Global};
 
 /// The target that the most bytes of a row have, the least state among equals. The counts are 0 for each state, before and after.

@@ -1,7 +1,7 @@
 //! Tables with chains of defaults have the records of their automata.
-ghost use Rattle.automata.specs.Automata.{Automaton, IsWhole};
+ghost use Rattle.automaton_rows.specs.Automata.{Automaton, IsWhole};
 ghost use Rattle.table_image.specs.Chains.{IsChained};
-ghost use Rattle.table_image.specs.Packing.{IsTableOf};
+ghost use Rattle.table_image.specs.PackedTables.{IsTableOf};
 ghost use Rattle.tables.specs.Tables.{Table};
 
 /// Tables in which each state has the targets and the record of one of an automaton, in its cells or over chains of defaults, are

@@ -5,14 +5,14 @@
 
 mod cells;
 mod chains;
-mod choosing;
-mod packing;
+mod choice;
+mod packer;
 mod starts;
 mod taken;
 
 pub use chains::chained_tables_tell_the_same;
 pub use names::{LeastHits, Record};
-pub use packing::{pack, pack_chained};
+pub use packer::{pack, pack_chained};
 pub use tables::{
     FEWEST_STATES, ImageFault, ROW_LENGTH, RawTable, are_counts_in_limits, bytes_have_one_outcome,
     from_bytes, tables_have_one_outcome, to_bytes, to_bytes_v1,

@@ -1,6 +1,6 @@
 //! Where rows with cells for the same bytes were placed before: the search for a base begins there.
 ghost use Rattle.std.specs.Prelude.{◌≡◌, ℕ, ◌<◌, ◌++◌, ◌∷◌, [], IfOk, OnOk};
-ghost use Rattle.table_image.specs.inner.Starting.{AreStarts, IsStartFor};
+ghost use Rattle.table_image.specs.inner.FirstBases.{AreStarts, IsStartFor};
 ghost use Rattle.table_image.specs.declared.taken.Taken.{Taken};
 ghost use Rattle.table_image.specs.declared.starts.Slot.{Slot};
 

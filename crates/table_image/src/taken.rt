@@ -1,6 +1,6 @@
 //! Which cells are taken, and where a row fits: 64 bases are tested at once.
 ghost use Rattle.std.specs.Prelude.{◌≡◌, ℕ, ◌+◌, ◌*◌, ◌<◌, ◌≤◌, ◌/◌, ◌⊎◌, ◌||◌, ◌==◌, ◌^◌, OnOk, length, true, false};
-ghost use Rattle.table_image.specs.inner.Taking.{is_bit, is_taken, is_blocked, IsLeastFree};
+ghost use Rattle.table_image.specs.inner.TakenCells.{is_bit, is_taken, is_blocked, IsLeastFree};
 
 use std::alloc::{AllocError, Global};
 

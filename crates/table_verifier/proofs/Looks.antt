@@ -4,8 +4,8 @@ use Rattle.std.proofs.lemmas.Bool.{cases_Bool, cases_lt, eqb-true}
 use Rattle.std.proofs.lemmas.Option.{get_or_from_slice_get}
 use Rattle.tables.specs.Bounds.{InBounds}
 use Rattle.tables.specs.Tables.{Table, cell_of, default_of, depth_of, look_ups, next_state, owns, state_count}
-use Rattle.table_verifier.specs.Running.{GoesOn}
-use Rattle.table_verifier.specs.inner.Looking.{IsLooked}
+use Rattle.table_verifier.specs.Runs.{GoesOn}
+use Rattle.table_verifier.specs.inner.LookUps.{IsLooked}
 use Rattle.table_verifier.specs.declared.chains.Looked.TheVariants.{Next, Onward}
 use Rattle.table_verifier.proofs.RunningLaws.{depth_low}
 

@@ -1,4 +1,4 @@
--- The state after one byte more.
+-- The state after one more byte.
 use Rattle.std.proofs.Common.{◌≡◌, ℕ, zero, suc, ◌+◌, ◌<◌, ◌≤◌, List, [], ◌∷◌, ◌++◌, length, take, get_or, Option, Some, None, refl, ap}
 use Rattle.std.proofs.Common.{◌∙◌, arith}
 use Rattle.std.specs.Option.{option_and_then, unwrap_or}
@@ -18,13 +18,13 @@ goes_through : (t : Table) (n : ℕ) (bytes : List ℕ) (b : ℕ) (o : Option �
 goes_through t n bytes b None more at = cc
 goes_through t n bytes b (Some m) more at = more m at
 
--- from a list's last state one goes on with one byte more
+-- from a list's last state one goes on with one more byte
 goes_one_more : (t : Table) (s n : ℕ) (bytes : List ℕ) (b : ℕ) → state_from t s bytes ≡ Some n → state_from t s (bytes ++ b ∷ [])
     ≡ next_state t n b
 goes_one_more t s n [] b at = stays (next_state t s b) ∙ ap (λ (m : ℕ). next_state t m b) (same_Some s n at)
 goes_one_more t s n (c ∷ bytes) b at = goes_through t n bytes b (next_state t s c) (λ m there. goes_one_more t m n bytes b there) at
 
--- the state after one byte more, which isn't known to be there
+-- the state after one more byte, which isn't known to be there
 pub state_next : (t : Table) (start : ℕ) (bytes : List ℕ) (i s : ℕ) → i < length bytes → state_from t start (take i bytes) ≡ Some s
     → state_from t start (take (i + 1) bytes) ≡ next_state t s (get_or bytes i 0)
 state_next t start bytes i s lt at = ap (state_from t start) (take_more bytes i 0 lt) ∙ goes_one_more t start s (take i bytes)
@@ -60,7 +60,7 @@ look_ups_more t s n (c ∷ bytes) more at =
     look_ups_more t m n bytes more (goes_by t n bytes (next_state t s c) at) in
     omega (arith, rest)
 
--- one byte more takes its look-ups more
+-- one more byte adds its look-ups
 pub look_ups_next : (t : Table) (start : ℕ) (bytes : List ℕ) (i s : ℕ) → i < length bytes → state_from t start (take i bytes) ≡ Some s
     → look_ups_from t start (take (i + 1) bytes) ≡ look_ups_from t start (take i bytes) + look_ups t s (get_or bytes i 0)
 look_ups_next t start bytes i s lt at =

@@ -1,8 +1,8 @@
 //! Bytes that are looked up again, at one default after another.
 ghost use Rattle.std.specs.Prelude.{◌≡◌, ◌+◌, ◌^◌, ◌<◌, false, Some, slice_get};
 ghost use Rattle.tables.specs.Tables.{look_ups, next_state, owns, state_count};
-ghost use Rattle.table_verifier.specs.inner.Standing.{IsAt};
-ghost use Rattle.table_verifier.specs.inner.Looking.{IsLooked};
+ghost use Rattle.table_verifier.specs.inner.BasedStates.{IsAt};
+ghost use Rattle.table_verifier.specs.inner.LookUps.{IsLooked};
 
 use crate::entries::{Entries, READER, Standing};
 use crate::laws::{chains_fall, tables_in_bounds_run};

@@ -2,7 +2,7 @@
 ghost use Rattle.std.specs.Prelude.{◌≡◌, ℕ, ◌+◌, ◌^◌, ◌<◌, false, IfSome, MatchOption, Some, slice_get};
 ghost use Rattle.tables.specs.Bounds.{InBounds};
 ghost use Rattle.tables.specs.Tables.{Table, cell_count, look_ups, next_state, owns, state_count};
-ghost use Rattle.table_verifier.specs.inner.Standing.{IsAt};
+ghost use Rattle.table_verifier.specs.inner.BasedStates.{IsAt};
 
 use crate::laws::chains_fall;
 use crate::steps::Steps;

@@ -1,9 +1,9 @@
 //! Profiles of images.
 ghost use Rattle.std.specs.Prelude.{◌≡◌, IfOk, IfErr};
-ghost use Rattle.table_verifier.specs.Loading.{IsLoaded, IsRefusedFor};
+ghost use Rattle.table_verifier.specs.AcceptedImages.{IsLoaded, IsRefusedFor};
 
+use crate::verification::verify;
 use crate::verified::VerifiedTable;
-use crate::verifying::verify;
 use std::alloc::Global;
 use std::marker::Model;
 use tables::{ImageFault, from_bytes};

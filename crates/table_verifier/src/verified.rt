@@ -2,7 +2,7 @@
 ghost use Rattle.std.specs.Prelude.{◌≡◌, ◌+◌, ◌^◌, ◌<◌, Some, slice_get};
 ghost use Rattle.tables.specs.Bounds.{InBounds};
 ghost use Rattle.tables.specs.Tables.{cell_count, look_ups, next_state, record_count, record_of, state_count, table_value};
-ghost use Rattle.table_verifier.specs.Running.{Runs};
+ghost use Rattle.table_verifier.specs.Runs.{Runs};
 
 use crate::chains::look_up;
 use crate::entries::{Entries, Reader};

@@ -7,11 +7,11 @@ use Rattle.tables.specs.Bounds.{InLimits, fault_number}
 use Rattle.tables.specs.Images.{HasImageFault, HasVersion, IsFirstImageFault, IsImageOf, IsWhole, short_at, told_length, word_at}
 use Rattle.tables.specs.declared.header.Version.{Version}
 use Rattle.tables.specs.declared.header.Version.TheVariants.{First, Second}
-use Rattle.tables.specs.inner.Reading.{table_at}
+use Rattle.tables.specs.inner.ReadTables.{table_at}
 use Rattle.tables.specs.Tables.{Table}
 use Rattle.tables.specs.declared.fault.ImageFault.{ImageFault}
 use Rattle.tables.specs.declared.fault.ImageFault.TheVariants as fault
-use Rattle.tables.proofs.Deciding.{decided_equal, decided_limits, decided_list}
+use Rattle.tables.proofs.Decisions.{decided_equal, decided_limits, decided_list}
 use Rattle.tables.proofs.Wholes.{low_bytes, whole_is_image}
 
 module _ (bytes : List ℕ) where

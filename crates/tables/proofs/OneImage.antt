@@ -16,7 +16,7 @@ use Rattle.tables.specs.Bounds.{InLimits, IsShaped}
 use Rattle.tables.specs.Images.{AreShort, HasImageFault, HasRoom, FitsVersion1, HasVersion, IsImageOf, IsShortRecord, IsVersionOf}
 use Rattle.tables.specs.Images.{IsWhole, IsWholeOf, bound_of, depth_count, depths_of, header_of, hits_bytes, image_of, length_of}
 use Rattle.tables.specs.Images.{record_bytes, record_length, short_at, told_length, version_number, word_at, words}
-use Rattle.tables.specs.inner.Reading.{stored_for}
+use Rattle.tables.specs.inner.ReadTables.{stored_for}
 use Rattle.tables.specs.declared.header.Version.{Version}
 use Rattle.tables.specs.declared.header.Version.TheVariants.{First, Second}
 use Rattle.tables.proofs.HeaderReads.{one_version}
@@ -151,9 +151,9 @@ header_says v bytes t image =
     record {
       version = ap (λ z. short_at z 4) is ∙ head_version n m s c r rest (few_versions v);
       bound = ap (λ z. short_at z 6) is ∙ head_bound n m s c r rest (bound_small v t image.room);
-      states = ap (λ z. word_at z 8) is ∙ head_states n m s c r rest (let x = limits.most_states in omega (arith, x));
-      cells = ap (λ z. word_at z 12) is ∙ head_cells n m s c r rest (let x = limits.most_cells in omega (arith, x));
-      records = ap (λ z. word_at z 16) is ∙ head_records n m s c r rest (let x = limits.most_records in omega (arith, x));
+      states = ap (λ z. word_at z 8) is ∙ head_states n m s c r rest (let x = limits.states_fit in omega (arith, x));
+      cells = ap (λ z. word_at z 12) is ∙ head_cells n m s c r rest (let x = limits.cells_fit in omega (arith, x));
+      records = ap (λ z. word_at z 16) is ∙ head_records n m s c r rest (let x = limits.records_fit in omega (arith, x));
     }
 
 -- version 1 has 0 for the bound

@@ -11,7 +11,7 @@ use Rattle.names.specs.Least.{hits_of, no_hit}
 use Rattle.names.specs.declared.record.LeastHits.{LeastHits}
 use Rattle.names.specs.declared.record.Record.{Record}
 use Rattle.tables.specs.Images.{AreShort, IsShortRecord, hits_bytes, record_bytes, stored_permissions}
-use Rattle.tables.specs.inner.Reading.{stored_for}
+use Rattle.tables.specs.inner.ReadTables.{stored_for}
 use Rattle.tables.specs.declared.header.Version.{Version}
 use Rattle.tables.specs.declared.header.Version.TheVariants.{First, Second}
 

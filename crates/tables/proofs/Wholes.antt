@@ -21,7 +21,7 @@ use Rattle.tables.specs.Images.{bound_of, depth_count, depths_of, header_of, rec
 use Rattle.tables.specs.Images.{word_at, words}
 use Rattle.tables.specs.declared.header.Version.{Version}
 use Rattle.tables.specs.declared.header.Version.TheVariants.{First, Second}
-use Rattle.tables.specs.inner.Reading.{bound_at, depths_at, hits_at, record_at, records_at, stored_for, table_at, words_at}
+use Rattle.tables.specs.inner.ReadTables.{bound_at, depths_at, hits_at, record_at, records_at, stored_for, table_at, words_at}
 use Rattle.tables.specs.Tables.{Table, state_count, cell_count, record_count}
 use Rattle.tables.proofs.Pieces.{AreLow, length_records_at, length_words_at, low_rest, piece, records_back, short_back, take_both}
 use Rattle.tables.proofs.Pieces.{word_back, words_back}

@@ -8,23 +8,23 @@ use Rattle.tables.specs.declared.fault.ImageFault.TheVariants as fault
 abbrev pub row_length : ℕ
 row_length = 256
 
-abbrev pub state_limit : ℕ
-state_limit = 65536
+abbrev pub most_states : ℕ
+most_states = 65536
 
-abbrev pub cell_limit : ℕ
-cell_limit = 16777216
+abbrev pub most_cells : ℕ
+most_cells = 16777216
 
-abbrev pub record_limit : ℕ
-record_limit = 65536
+abbrev pub most_records : ℕ
+most_records = 65536
 
 -- how many states, cells and records there may be: the dead state and the start, a row, and a record at least
 pub record InLimits (states cells records : ℕ) : Type 0 where
   pub two_states : 2 ≤ states
-  pub most_states : states ≤ state_limit
+  pub states_fit : states ≤ most_states
   pub one_row : row_length ≤ cells
-  pub most_cells : cells ≤ cell_limit
+  pub cells_fit : cells ≤ most_cells
   pub one_record : 1 ≤ records
-  pub most_records : records ≤ record_limit
+  pub records_fit : records ≤ most_records
 
 -- each list is as long as the others of its group
 pub record IsShaped (t : Table) : Type 0 where

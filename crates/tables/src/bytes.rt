@@ -7,7 +7,7 @@ ghost use Rattle.tables.specs.Images.{AreShort, AreWords, FitsVersion1, IsFirstI
 ghost use Rattle.tables.specs.Images.{IsWhole, bound_of, depth_count, depths_of, header_of, hits_bytes, record_bytes, record_length};
 ghost use Rattle.tables.specs.Images.{words};
 ghost use Rattle.tables.specs.inner.Places.{IsCounted, IsShortAsStored};
-ghost use Rattle.tables.specs.inner.Reading.{depths_at, hits_at, record_at, records_at, table_at, words_at};
+ghost use Rattle.tables.specs.inner.ReadTables.{depths_at, hits_at, record_at, records_at, table_at, words_at};
 ghost use Rattle.tables.specs.Tables.{table_value};
 ghost use Rattle.tables.specs.declared.fault.ImageFault.TheVariants as fault;
 ghost use Rattle.tables.specs.declared.header.Version.TheVariants.{First, Second};
@@ -141,7 +141,7 @@ fn push_records(bytes: &mut Vec<u8>, records: &[Record], version: Version) -> Re
     Ok(())
 }
 
-/// The tables of an image, or the first fault of its bytes. No memory is taken before these faults are tested.
+/// The tables of an image, or the first fault of its bytes. Nothing is allocated before these faults are tested.
 pub fn from_bytes(alloc: Global, bytes: &[u8]) -> Result<RawTable, ImageFault>
     ensures ok { IfOk result (λ table. IsImageOf bytes.now (table_value table)) }
     ensures err { IfErr result (λ f. ((f ≡ fault.NoMemory) × IsWhole bytes.now) ⊎ IsFirstImageFault bytes.now f) }

@@ -37,7 +37,7 @@ fn show_again<W: Write>(
     Ok(())
 }
 
-/// Shows what stands in the text of each rule, and how it is written by itself.
+/// Shows the part of the text that is each rule, and how it is written by itself.
 pub(crate) fn show_rules<W: Write>(alloc: Global, text: &[u8], output: &mut W) -> io::Result<()> {
     let Some(profile) = profile_of(alloc, text, output)? else {
         return Ok(());

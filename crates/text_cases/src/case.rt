@@ -3,15 +3,15 @@ use crate::canonical::{show_canonical, show_rules};
 use crate::compiled::show_records;
 use crate::flattened::show_parts;
 use crate::items::show_items;
-use crate::judging::{show_allowed, show_verdicts};
+use crate::judgment::{show_allowed, show_verdicts};
 use crate::lines::show_lines;
 use crate::profiles::show_profile;
 use crate::subjects::show_effects;
 use crate::variables::show_substituted;
-use case_texts::{Case, bytes_of};
 use std::alloc::Global;
 use std::io;
 use std::io::Write;
+use test_parts::{Case, bytes_of};
 
 /// Shows each case.
 pub(crate) fn show_all<W: Write>(alloc: Global, cases: &str, output: &mut W) -> io::Result<()> {

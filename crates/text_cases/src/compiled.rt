@@ -1,14 +1,14 @@
 //! Profiles compiled to automata.
 use crate::profiles::profile_of;
-use case_texts::bytes_of;
 use glob_automaton::{Dfa, Record, compile, told};
 use names::{Permission, Perms};
 use rule_text::{Profile, judge_slow};
 use std::alloc::Global;
 use std::io;
 use std::io::Write;
+use test_parts::bytes_of;
 
-/// Tells how many states the automaton has, or why there is none.
+/// Shows how many states the automaton has, or why there is none.
 pub(crate) fn tell_states<W: Write>(alloc: Global, text: &[u8], output: &mut W) -> io::Result<()> {
     let Some(profile) = profile_of(alloc, text, output)? else {
         return Ok(());
@@ -56,7 +56,7 @@ fn show_record<W: Write>(record: &Record, output: &mut W) -> io::Result<()> {
     writeln!(output)
 }
 
-/// Tells whether rules and automaton agree on each list of at most five bytes of four.
+/// Shows whether rules and automaton agree on each list of at most five bytes of four.
 pub(crate) fn tell_agreement<W: Write>(
     alloc: Global,
     text: &[u8],
@@ -115,7 +115,7 @@ fn counted(alphabet: [u8; 4], number: usize, room: &mut [u8; 5]) -> &[u8] {
     room
 }
 
-// Whether the record tells another verdict than the rules, for some set of permissions.
+// Whether the record gives another verdict than the rules, for some set of permissions.
 fn differ(profile: &Profile, record: &Record, name: &[u8]) -> bool {
     let read = Perms::NONE.with(Permission::Read);
     let write = Perms::NONE.with(Permission::Write);

@@ -1,7 +1,7 @@
 //! Flattened texts: their items and parts, where reading stops, and the letters of permissions.
 use crate::memory::given;
-use flat_text::{Item, read_items};
-use flat_words::{Stop, StopKind, letters_of};
+use apparmor_text::{Item, read_items};
+use apparmor_words::{Stop, StopKind, letters_of};
 use std::alloc::Global;
 use std::io;
 use std::io::Write;
@@ -27,7 +27,7 @@ fn show_item<W: Write>(item: &Item<'_>, output: &mut W) -> io::Result<()> {
     Ok(())
 }
 
-/// Tells where reading a text stops, and for what.
+/// Shows where reading a text stops, and for what.
 pub(crate) fn tell_stop<W: Write>(alloc: Global, text: &[u8], output: &mut W) -> io::Result<()> {
     match given(read_items(alloc, text))?.stop {
         Some(stop) => tell_stop_at(stop, text.len().saturating_sub(stop.left), output),
@@ -48,7 +48,7 @@ fn tell_stop_at<W: Write>(stop: Stop<'_>, offset: usize, output: &mut W) -> io::
     writeln!(output, " at byte {offset}")
 }
 
-/// Tells what the letters of permissions stand for.
+/// Shows what the letters of permissions stand for.
 pub(crate) fn tell_letters<W: Write>(word: &[u8], output: &mut W) -> io::Result<()> {
     let Some(letters) = letters_of(word) else {
         return writeln!(output, "none");
@@ -67,7 +67,7 @@ pub(crate) fn tell_letters<W: Write>(word: &[u8], output: &mut W) -> io::Result<
     writeln!(output)
 }
 
-/// Tells whether the letters fit a rule that allows, and one that denies.
+/// Shows whether the letters fit a rule that allows, and one that denies.
 pub(crate) fn tell_fitting<W: Write>(word: &[u8], output: &mut W) -> io::Result<()> {
     let Some(letters) = letters_of(word) else {
         return writeln!(output, "none");

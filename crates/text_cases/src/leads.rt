@@ -1,15 +1,14 @@
 //! Texts of paths: what they are led to, and how they are read.
 use crate::memory::given;
 use names::{NoMemory, Permission, Perms};
-use path_leads::{groups_have_alternatives, is_read_alike, led};
-use profile_parts::path_of;
+use rule_making::{groups_have_alternatives, is_read_alike, led, path_of};
 use rule_reader::read_path;
 use rule_text::{Rule, RuleKind, RulePath, write_rule};
 use std::alloc::Global;
 use std::io;
 use std::io::Write;
 
-/// Tells the rules whose paths a path's text is led to, each as it is written by itself.
+/// Shows the rules whose paths a path's text is led to, each as it is written by itself.
 pub(crate) fn tell_led<W: Write>(alloc: Global, text: &[u8], output: &mut W) -> io::Result<()> {
     match read_path(alloc, text) {
         Ok(Some(items)) => tell_rules(alloc, given(led(alloc, &items))?, output),
@@ -39,7 +38,7 @@ fn tell_rule<W: Write>(alloc: Global, path: RulePath, output: &mut W) -> io::Res
     output.write_all(&given(write_rule(alloc, &rule))?)
 }
 
-/// Tells whether the text is a path's, and whether its items are a path of a profile.
+/// Shows whether the text is a path's, and whether its items are a path of a profile.
 pub(crate) fn tell_path_text<W: Write>(
     alloc: Global,
     text: &[u8],
@@ -55,7 +54,7 @@ pub(crate) fn tell_path_text<W: Write>(
     }
 }
 
-/// Tells whether each group has two alternatives or more.
+/// Shows whether each group has two alternatives or more.
 pub(crate) fn tell_choices<W: Write>(alloc: Global, text: &[u8], output: &mut W) -> io::Result<()> {
     match given(read_path(alloc, text))? {
         Some(items) if groups_have_alternatives(&items) => writeln!(output, "choices"),
@@ -64,7 +63,7 @@ pub(crate) fn tell_choices<W: Write>(alloc: Global, text: &[u8], output: &mut W)
     }
 }
 
-/// Tells whether AppArmor and this language read a path's text alike.
+/// Shows whether AppArmor and this language read a path's text alike.
 pub(crate) fn tell_alike<W: Write>(text: &[u8], output: &mut W) -> io::Result<()> {
     if is_read_alike(text) {
         writeln!(output, "read alike")

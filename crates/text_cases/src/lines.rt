@@ -5,10 +5,10 @@ use crate::leads::{tell_alike, tell_choices, tell_led, tell_path_text};
 use crate::named::{tell_components, tell_path, tell_profile_name};
 use crate::profiles::show_profile;
 use crate::variables::tell_slashes;
-use case_texts::{Case, bytes_of};
 use std::alloc::Global;
 use std::io;
 use std::io::Write;
+use test_parts::{Case, bytes_of};
 
 /// Shows what is said of each line.
 pub(crate) fn show_lines<W: Write>(

@@ -3,7 +3,7 @@
 //! list of worked examples.
 //!
 //! A case begins with a line `=== ` and a title. The next line is the view, which says what is asked. Lines that begin with `+ `
-//! are options of the view, and what follows them is the text, as `bytes_of` of `case_texts` reads it; the line end before the
+//! are options of the view, and what follows them is the text, as `bytes_of` of `test_parts` reads it; the line end before the
 //! next case is not of the text. Where a view is of lines, each line of the text is a text of its own, and is written before what
 //! is said of it.
 //!
@@ -12,7 +12,7 @@
 //! | `profile`, `profiles` | | `a profile`, or the fault |
 //! | `items` | | the profile's name, and of each rule the permissions and the items of the path |
 //! | `canonical` | | the canonical text, and what that is written as where it differs |
-//! | `rules` | | of each rule what stands in the text, and how it is written by itself |
+//! | `rules` | | of each rule its part of the text, and how it is written by itself |
 //! | `verdicts` | letters and a name | the verdict by the rules, and by the automaton where that differs |
 //! | `allowed` | a name | the permissions that the rules allow to the name |
 //! | `states` | | how many states the automaton has, or why there is none |
@@ -38,7 +38,7 @@ mod case;
 mod compiled;
 mod flattened;
 mod items;
-mod judging;
+mod judgment;
 mod leads;
 mod lines;
 mod memory;

@@ -1,11 +1,11 @@
 //! Paths of the tree, and names of profiles.
 use names::Path;
-use profile_parts::profile_of;
+use rule_making::profile_of;
 use std::alloc::Global;
 use std::io;
 use std::io::Write;
 
-/// Tells whether the bytes are a path, or why they aren't.
+/// Shows whether the bytes are a path, or why they aren't.
 pub(crate) fn tell_path<W: Write>(bytes: &[u8], output: &mut W) -> io::Result<()> {
     match Path::check(bytes) {
         Ok(_) => writeln!(output, "a path"),
@@ -13,7 +13,7 @@ pub(crate) fn tell_path<W: Write>(bytes: &[u8], output: &mut W) -> io::Result<()
     }
 }
 
-/// Tells a path's components, with a bar between each two.
+/// Shows a path's components, with a bar between each two.
 pub(crate) fn tell_components<W: Write>(bytes: &[u8], output: &mut W) -> io::Result<()> {
     match Path::check(bytes) {
         Ok(path) => tell_components_of(&path, output),
@@ -33,7 +33,7 @@ fn tell_components_of<W: Write>(path: &Path<'_>, output: &mut W) -> io::Result<(
     writeln!(output)
 }
 
-/// Tells whether there is a profile of the name.
+/// Shows whether there is a profile of the name.
 pub(crate) fn tell_profile_name<W: Write>(
     alloc: Global,
     name: &[u8],

@@ -1,9 +1,9 @@
 //! What restating the rules of a flattened text for one subject changes.
-use case_texts::Case;
+use apparmor_rules::{AppliesTo, Effect, RuleShape, Subject};
 use names::{Perms, RuleKind};
 use std::io;
 use std::io::Write;
-use subject_rules::{AppliesTo, Effect, RuleShape, Subject};
+use test_parts::Case;
 
 /// Shows for each shape of a rule what restating it changes, and whether it is restated or left out. A shape is `allow` or
 /// `deny`, to whom it applies, the letters of permissions, where it has some, `target` where its link has one, `unread` where

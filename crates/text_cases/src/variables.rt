@@ -1,11 +1,11 @@
 //! Paths with variables.
 use crate::memory::given;
-use case_texts::Case;
+use apparmor_variables::{ExpandFault, Lists, Variable, one_slash};
 use names::NoMemory;
-use profile_variables::{ExpandFault, Lists, Variable, one_slash};
 use std::alloc::{AllocError, Global};
 use std::io;
 use std::io::Write;
+use test_parts::Case;
 
 /// Shows each line, of a path what it is with the variables in place, and of a number what the variables but the first count, or
 /// that it is more. A line that gives the first variable another value is shown alone.
@@ -75,7 +75,7 @@ fn tell_substituted<'a, W: Write>(
     }
 }
 
-/// Tells what the variables but the first count, if it is at most this number.
+/// Shows what the variables but the first count, if it is at most this number.
 fn tell_count<W: Write>(
     alloc: Global,
     lists: &mut Lists<'_>,
@@ -93,7 +93,7 @@ fn tell_fault<W: Write>(fault: &str, name: &[u8], output: &mut W) -> io::Result<
     output.write_all(name)
 }
 
-/// Tells the text with one slash for each run.
+/// Shows the text with one slash for each run.
 pub(crate) fn tell_slashes<W: Write>(alloc: Global, text: &[u8], output: &mut W) -> io::Result<()> {
     output.write_all(&given(one_slash(alloc, text))?)?;
     writeln!(output)

@@ -13,7 +13,7 @@ use Rattle.rule_reader.specs.declared.fault.ReadFault.{ReadFault}
 use Rattle.rule_reader.specs.declared.fault.ReadFault.TheVariants as reading
 use Rattle.rule_profile.specs.declared.profile.Span.{Span}
 use Rattle.rule_profile.specs.Profile.{ProfileValue}
-use Rattle.rule_reader.specs.Reading.{outcome_of}
+use Rattle.rule_reader.specs.ReadText.{outcome_of}
 use Rattle.rule_reader.specs.Spans.{spans_of}
 use Rattle.names.specs.VerdictText.{verdict_text}
 use Rattle.trace_report.specs.declared.format.Format.{Format}

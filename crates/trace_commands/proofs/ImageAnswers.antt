@@ -8,8 +8,8 @@ use Rattle.std.proofs.lemmas.Option.{same_Some}
 use Rattle.names.specs.Records.{IsTold}
 use Rattle.names.specs.Bytes.{are_bytes}
 use Rattle.names.specs.declared.record.Record.{Record}
-use Rattle.table_verifier.specs.Loading.{IsLoaded, IsLoadFault}
-use Rattle.matcher.specs.Telling.{TellsLeastHits, TellsVerdicts}
+use Rattle.table_verifier.specs.AcceptedImages.{IsLoaded, IsLoadFault}
+use Rattle.matcher.specs.TableVerdicts.{TellsLeastHits, TellsVerdicts}
 use Rattle.names.specs.declared.permissions.Perms.{Perms}
 use Rattle.rule_globs.specs.PlainVerdict.{verdict}
 use Rattle.rule_profile.specs.Profile.{ProfileValue, RuleValue}

@@ -16,11 +16,11 @@ use Rattle.trace_report.specs.Fault.{IsFaultOfReading, fault_of_image}
 use Rattle.trace_report.specs.Output.{Output, fault, image_refusal}
 use Rattle.trace_report.specs.Streams.{IsTextOf}
 use Rattle.trace_report.proofs.Endings.{text_of}
-use Rattle.trace_commands.specs.Reading.{ReadsImage}
+use Rattle.trace_commands.specs.ReadImages.{ReadsImage}
 use Rattle.trace_commands.specs.Tables.{IsImageRefused}
 use Rattle.trace_report.specs.Fault.{AreGood, IsFaultOfOne}
 use Rattle.trace_commands.specs.inner.Answers.{IsRefusedText, IsUnread}
-use Rattle.trace_commands.proofs.Consuming.{all_read, consumes_more, consumes_nothing, text_begins}
+use Rattle.trace_commands.proofs.Consumption.{all_read, consumes_more, consumes_nothing, text_begins}
 use Rattle.trace_commands.proofs.OneOutput.{unread_one}
 
 -- a fault of bytes is reported as one of an image
@@ -98,7 +98,7 @@ read_failed left error (Text k) h = absurd h
 read_failed left error (Compiling k) h = absurd h
 read_failed left error (Image k) h = absurd h
 
--- where there is no image, a fault is reported that is wanted, or that hides what is
+-- where there is no image, a fault is reported that is one of the outputs, or that hides them
 pub image_unread : (left : Option (List ℕ)) (Wanted : List ℕ → Output → Type 0) (f : Fault) → ((text : List ℕ) → AreGood (Wanted text))
     → ((text : List ℕ) (output : Output) → IsImageRefused text output → Wanted text output)
     → IsUnread left f → (text : List ℕ) × IsTextOf left text × IsFaultOfOne (Wanted text) f

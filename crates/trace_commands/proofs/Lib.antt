@@ -1,5 +1,5 @@
 pub mod Arguments
-pub mod Consuming
+pub mod Consumption
 pub mod ExplainEndings
 pub mod OneOutput
 pub mod ImageAnswers

@@ -1,5 +1,5 @@
 -- Commands that may write one of several outputs.
-use Rattle.table_verifier.specs.Loading.{IsLoadFault}
+use Rattle.table_verifier.specs.AcceptedImages.{IsLoadFault}
 use Rattle.std.specs.Prelude.{Vec}
 use Rattle.matcher.specs.declared.fault.MakeFault.TheVariants.{TooManyStates}
 use Rattle.tables.specs.Tables.{Table}
@@ -10,7 +10,7 @@ use Rattle.tables.specs.declared.fault.ImageFault.TheVariants as fault_here
 use Rattle.std.proofs.Common.{arith, ◌≡◌, ◌≢◌, ◌<◌, ◌⊎◌, ℕ, zero, suc, List, Result, Ok, Err, refl, inl, inr}
 use Rattle.names.specs.declared.permissions.Perms.{Perms}
 use Rattle.rule_profile.specs.Profile.{ProfileValue}
-use Rattle.rule_reader.specs.Reading.{outcome_of}
+use Rattle.rule_reader.specs.ReadText.{outcome_of}
 use Rattle.rule_reader.specs.declared.fault.ReadFault.{ReadFault}
 use Rattle.trace_report.specs.Fault.{AreGood, IsFaultOfOne}
 use Rattle.trace_commands.specs.inner.Answers.{IsAnswered}
@@ -54,7 +54,7 @@ pub matched_arguments : (format : Format) (ask : Perms) (name image : List ℕ) 
 matched_arguments format ask name image output (inl h) = not_bad output _ h.4
 matched_arguments format ask name image output (inr h) = image_refused image output h
 
--- a command that gave an answer that is wanted ends as it should
+-- a command that gave one of the answers that may be written ends as it should
 pub one_given : (streams : Streams) (Wanted : Output → Type 0) (output : Output) (status : Status) → AreGood Wanted → Wanted output
     → Ends streams output status → EndsInOne streams Wanted status
 one_given streams Wanted output Done good of h = (output, of, h)
@@ -97,7 +97,7 @@ pub match_in_vain : (format : Format) (perms name image : List ℕ) (f : Fault) 
     → IsFaultOfOne (IsMatchOutput format perms name image) f
 match_in_vain format perms name image f e which = asked_one format (ask_of perms name) name image f e which
 
--- good arguments: the wanted outputs are those for the permissions asked for
+-- good arguments: the outputs that may be written are those for the permissions asked for
 asked_arguments : (format : Format) (asked : Result Perms (List ℕ)) (ask : Perms) (name image : List ℕ) → asked ≡ Ok ask →
     AreGood (IsMatchOutputOf format asked name image)
 asked_arguments format asked ask name image e = rw e (matched_arguments format ask name image)

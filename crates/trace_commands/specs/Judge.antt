@@ -1,20 +1,21 @@
 -- What `judge` writes, memory and failures of the streams aside.
 use Rattle.std.specs.Prelude.{ℕ, Bool, false, List, [], ◌∷◌, ◌==◌, Some, None, Result, Ok, Err, codes, if◌then◌else◌}
+use Rattle.names.specs.Ascii as ascii
 use Rattle.names.specs.declared.permissions.Perms.{Perms}
 use Rattle.rule_reader.specs.declared.fault.ReadFault.{ReadFault}
 use Rattle.rule_globs.specs.PlainVerdict.{verdict}
 use Rattle.rule_profile.specs.Profile.{ProfileValue}
-use Rattle.rule_reader.specs.Reading.{outcome_of}
+use Rattle.rule_reader.specs.ReadText.{outcome_of}
 use Rattle.answer_json.specs.Lines.{verdict_line}
 use Rattle.trace_report.specs.declared.format.Format.{Format}
 use Rattle.trace_report.specs.declared.status.Status.TheVariants.{BadArguments, Refused}
 use Rattle.trace_report.specs.Output.{Output, fault, refusal, whole_answer}
-use Rattle.trace_report.specs.Reading.{asked_by}
+use Rattle.trace_report.specs.ReadStreams.{asked_by}
 
 -- the name begins with a slash
 abbrev pub is_absolute : List ℕ → Bool
 is_absolute [] = false
-is_absolute (b ∷ name) = b == 47
+is_absolute (b ∷ name) = b == ascii.slash
 
 -- the permissions asked for, or the message about the arguments
 abbrev pub ask_of : List ℕ → List ℕ → Result Perms (List ℕ)

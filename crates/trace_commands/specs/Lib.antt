@@ -1,5 +1,5 @@
 pub mod Tables
 pub mod Judge
 pub mod Explain
-pub mod Reading
+pub mod ReadImages
 pub mod inner

@@ -8,11 +8,11 @@ use Rattle.names.specs.Records.{IsTold}
 use Rattle.glob_automaton.specs.Sets.{AreMoreThan}
 use Rattle.matcher.specs.declared.fault.MakeFault.TheVariants.{TooManyStates}
 use Rattle.names.specs.declared.record.Record.{Record}
-use Rattle.table_verifier.specs.Loading.{IsLoaded, IsLoadFault}
-use Rattle.matcher.specs.Telling.{IsTableOfRules}
+use Rattle.table_verifier.specs.AcceptedImages.{IsLoaded, IsLoadFault}
+use Rattle.matcher.specs.TableVerdicts.{IsTableOfRules}
 use Rattle.names.specs.declared.permissions.Perms.{Perms}
 use Rattle.rule_profile.specs.Profile.{ProfileValue}
-use Rattle.rule_reader.specs.Reading.{outcome_of}
+use Rattle.rule_reader.specs.ReadText.{outcome_of}
 use Rattle.names.specs.VerdictText.{verdict_text}
 use Rattle.rule_reader.specs.declared.fault.ReadFault.{ReadFault}
 use Rattle.names.specs.declared.verdict.Verdict.{Verdict}

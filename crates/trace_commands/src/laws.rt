@@ -5,7 +5,7 @@ ghost use Rattle.names.specs.declared.permissions.Perms.{Perms};
 ghost use Rattle.rule_globs.specs.PlainVerdict.{verdict};
 ghost use Rattle.rule_profile.specs.Profile.{ProfileValue};
 ghost use Rattle.tables.specs.Tables.{Table};
-ghost use Rattle.table_verifier.specs.Loading.{IsLoaded};
+ghost use Rattle.table_verifier.specs.AcceptedImages.{IsLoaded};
 ghost use Rattle.answer_json.specs.Lines.{json_line};
 ghost use Rattle.answer_json.specs.Values.{match_object};
 ghost use Rattle.trace_report.specs.Output.{Output, whole_answer};

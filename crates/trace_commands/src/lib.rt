@@ -5,19 +5,19 @@
 //! proofs.
 #![tactic(auto)]
 
-mod checking;
-mod compiling;
-mod explaining;
-mod judging;
+mod check_command;
+mod compile_command;
+mod explain_command;
+mod image_reader;
+mod judge_command;
 mod laws;
-mod matching;
-mod reading;
+mod match_command;
 
-pub use checking::check;
-pub use compiling::compile;
-pub use explaining::explain;
-pub use judging::judge;
+pub use check_command::check;
+pub use compile_command::compile;
+pub use explain_command::explain;
+pub use judge_command::judge;
 pub use laws::{
     explain_goes_on_from_judge, images_have_one_answer, images_of_rules_tell_their_verdicts,
 };
-pub use matching::match_name;
+pub use match_command::match_name;

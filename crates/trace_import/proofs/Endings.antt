@@ -2,9 +2,9 @@
 use Rattle.std.proofs.Common.{◌≡◌, ◌≢◌, ◌⊎◌, ℕ, List, Option, Ok, Err, refl, inl, inr}
 use Rattle.std.specs.Prelude.{codes}
 use Rattle.names.specs.Errors.{no_memory_text}
-use Rattle.profile_import.specs.declared.options.ImportOptions.{ImportOptions}
-use Rattle.profile_import.specs.Faults.{ImportFault}
-use Rattle.profile_import.specs.Imports.{Imports, Outcome}
+use Rattle.import_profile.specs.declared.options.ImportOptions.{ImportOptions}
+use Rattle.import_profile.specs.Faults.{ImportFault}
+use Rattle.import_profile.specs.Imports.{Imports, Outcome}
 use Rattle.trace_report.specs.Output.{Output}
 use Rattle.trace_report.specs.Streams.{EndsInOne, IsTold}
 use Rattle.trace_report.specs.declared.fault.Fault.{Fault}

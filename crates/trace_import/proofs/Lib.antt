@@ -1,1 +1,3 @@
+pub mod PlaceLaws
+pub mod JoinedWords
 pub mod Endings

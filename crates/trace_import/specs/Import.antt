@@ -1,14 +1,14 @@
 -- What `import` writes, memory and failures of the streams aside.
 use Rattle.std.specs.Prelude.{◌≡◌, ℕ, ◌-◌, List, [], take, drop, Option, Result, Ok, Err, option_map}
 use Rattle.std.specs.List.{flat_map}
-use Rattle.import_cut.specs.declared.span.Span.{Span}
-use Rattle.import_cut.specs.declared.span.SpanKind.{SpanKind}
-use Rattle.import_cut.specs.declared.span.SpanKind.TheVariants.{Kept, Blank, Told}
-use Rattle.import_lines.specs.AccountLines.{account_line}
-use Rattle.import_lines.specs.RefusalLines.{refusal_text}
-use Rattle.profile_import.specs.declared.options.ImportOptions.{ImportOptions}
-use Rattle.profile_import.specs.Faults.{ImportFault, fault_number, fault_place, fault_word, fault_names}
-use Rattle.profile_import.specs.Imports.{Imports, Outcome}
+use Rattle.import_spans.specs.declared.span.Span.{Span}
+use Rattle.import_spans.specs.declared.span.SpanKind.{SpanKind}
+use Rattle.import_spans.specs.declared.span.SpanKind.TheVariants.{Kept, Blank, Told}
+use Rattle.trace_import.specs.AccountLines.{account_line}
+use Rattle.trace_import.specs.RefusalLines.{refusal_text}
+use Rattle.import_profile.specs.declared.options.ImportOptions.{ImportOptions}
+use Rattle.import_profile.specs.Faults.{ImportFault, fault_number, fault_place, fault_word, fault_names}
+use Rattle.import_profile.specs.Imports.{Imports, Outcome}
 use Rattle.rule_explain.specs.Places.{place_at}
 use Rattle.rule_writer.specs.Canonical.{canonical}
 use Rattle.trace_report.specs.Output.{Output, fault}

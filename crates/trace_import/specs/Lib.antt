@@ -1,1 +1,3 @@
+pub mod AccountLines
+pub mod RefusalLines
 pub mod Import

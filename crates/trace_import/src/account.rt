@@ -1,12 +1,12 @@
 //! The account of a text, and why a text is refused.
 ghost use Rattle.std.specs.Prelude.{◌≡◌, ◌++◌, IfOk, map};
-ghost use Rattle.profile_import.specs.Told.{import_fault_value};
+ghost use Rattle.import_profile.specs.Told.{import_fault_value};
 ghost use Rattle.trace_import.specs.Import.{between, span_line, account_text, refusal_of};
 
-use import_cut::{Span, SpanKind};
-use import_lines::{Places, RefusalLine, push_account_line, refusal_text};
+use crate::{Places, RefusalLine, push_account_line, refusal_text};
+use import_profile::ImportFault;
+use import_spans::{Span, SpanKind};
 use names::NoMemory;
-use profile_import::ImportFault;
 use rule_explain::place_at;
 use std::alloc::{AllocError, Global};
 

@@ -4,15 +4,15 @@ ghost use Rattle.std.specs.Io.KnownBytes.{Appends};
 ghost use Rattle.names.specs.Errors.{no_memory_text};
 ghost use Rattle.rule_profile.specs.Profile.{profile_value};
 ghost use Rattle.rule_writer.specs.Canonical.{canonical};
-ghost use Rattle.profile_import.specs.Told.{import_value, import_fault_value};
+ghost use Rattle.import_profile.specs.Told.{import_value, import_fault_value};
 ghost use Rattle.trace_report.specs.Output.{line};
-ghost use Rattle.trace_report.specs.Streams.{EndsInOne, IsTold};
+ghost use Rattle.trace_report.specs.Streams.{EndsInOne, IsTold, streams};
 ghost use Rattle.trace_report.specs.declared.status.Status.TheVariants.{Done};
 ghost use Rattle.trace_import.specs.Import.{ImportEndsOver, IsImportOutput, account_text, import_output, refusal_of};
 
 use crate::account::{account_text, refusal_of};
+use import_profile::{ImportFailure, ImportFault, ImportOptions, Imported, import_profile};
 use names::NoMemory;
-use profile_import::{ImportFailure, ImportFault, ImportOptions, Imported, import_profile};
 use rule_writer::write;
 use std::alloc::Global;
 use std::io::{Read, Write};
@@ -28,12 +28,7 @@ pub fn import<R: Read, A: Write, F: Write>(
     faults: &mut F,
 ) -> Status
     ensures { ImportEndsOver options.entry (R.remaining input.old)
-        (record {
-          answers_before = A.contents answers.old;
-          answers_after = A.contents answers.new;
-          faults_before = F.contents faults.old;
-          faults_after = F.contents faults.new;
-        }) result }
+        (streams (A.contents answers.old) (A.contents answers.new) (F.contents faults.old) (F.contents faults.new)) result }
 {
     match read_all(alloc, input) {
         Ok(text) => import_text(alloc, options, &text, answers, faults),
@@ -50,12 +45,7 @@ fn import_text<A: Write, F: Write>(
     faults: &mut F,
 ) -> Status
     ensures { EndsInOne
-        (record {
-          answers_before = A.contents answers.old;
-          answers_after = A.contents answers.new;
-          faults_before = F.contents faults.old;
-          faults_after = F.contents faults.new;
-        })
+        (streams (A.contents answers.old) (A.contents answers.new) (F.contents faults.old) (F.contents faults.new))
         (IsImportOutput options.entry text.now) result }
 {
     match import_profile(alloc, options, text) {
@@ -74,12 +64,7 @@ fn tell<A: Write, F: Write>(
     faults: &mut F,
 ) -> Status
     ensures { EndsInOne
-        (record {
-          answers_before = A.contents answers.old;
-          answers_after = A.contents answers.new;
-          faults_before = F.contents faults.old;
-          faults_after = F.contents faults.new;
-        })
+        (streams (A.contents answers.old) (A.contents answers.new) (F.contents faults.old) (F.contents faults.new))
         (λ output. output ≡ import_output text.now (Ok (import_value imported.now))) result }
 {
     match texts_of(alloc, text, imported) {
@@ -106,12 +91,7 @@ fn write_both<A: Write, F: Write>(
     account: &[u8],
 ) -> Status
     ensures { EndsInOne
-        (record {
-          answers_before = A.contents answers.old;
-          answers_after = A.contents answers.new;
-          faults_before = F.contents faults.old;
-          faults_after = F.contents faults.new;
-        })
+        (streams (A.contents answers.old) (A.contents answers.new) (F.contents faults.old) (F.contents faults.new))
         (λ output. output ≡ record { answers = profile.now; faults = account.now; status = Done }) result }
 {
     match write_through(answers, profile) {

@@ -1,8 +1,8 @@
 //! Laws of how an import ends. The functions do nothing: each stands for its contract.
 ghost use Rattle.std.specs.Prelude.{◌≡◌, ℕ, List, Ok, Err};
-ghost use Rattle.profile_import.specs.declared.options.ImportOptions.{ImportOptions};
-ghost use Rattle.profile_import.specs.Faults.{ImportFault};
-ghost use Rattle.profile_import.specs.Imports.{Imports, ImportValue, Outcome};
+ghost use Rattle.import_profile.specs.declared.options.ImportOptions.{ImportOptions};
+ghost use Rattle.import_profile.specs.Faults.{ImportFault};
+ghost use Rattle.import_profile.specs.Imports.{Imports, ImportValue, Outcome};
 ghost use Rattle.trace_import.specs.Import.{IsImportOutput};
 ghost use Rattle.trace_report.specs.Streams.{EndsInOne, Streams};
 ghost use Rattle.trace_report.specs.declared.status.Status.TheVariants.{Done, Unmet, BadArguments, Refused};

@@ -11,10 +11,10 @@ use Rattle.names.specs.declared.permissions.Permission.{Permission}
 use Rattle.names.specs.declared.permissions.Perms.{Perms}
 use Rattle.rule_globs.specs.Rules.{RuleValue}
 use Rattle.rule_influence.specs.StandIns.{AreStandIns, AreTheStandIns}
-use Rattle.rule_influence.specs.declared.standing.IdleCase.{IdleCase}
+use Rattle.rule_influence.specs.declared.substitutes.IdleCase.{IdleCase}
 use Rattle.trace_lint.specs.Findings.{AreFindings, FindingValue, first_idle}
 use Rattle.trace_lint.specs.Parts.{case_of, decided_by, decides_nothing, idle_letters, idle_parts, letters_of, parts_of_rule}
-use Rattle.trace_lint.specs.declared.finding.Part.{Part}
+use Rattle.trace_lint.specs.declared.findings.Part.{Part}
 use Rattle.trace_lint.specs.inner.Found.{AreNumbers, HaveNumbers, IsNumber, ListsHaveNumbers, all_found, found_of}
 
 -- ---- the numbers of rules

@@ -11,7 +11,7 @@ use Rattle.rule_influence.specs.Influence.{AreDecided, IsIdle}
 use Rattle.rule_influence.specs.StandIns.{AreTheStandIns}
 use Rattle.trace_lint.specs.Findings.{FindingValue, first_idle, idle_rule}
 use Rattle.trace_lint.specs.Parts.{case_of, decided_by, decides_none_of, decides_nothing}
-use Rattle.trace_lint.specs.declared.finding.Idle.{Idle}
+use Rattle.trace_lint.specs.declared.findings.Idle.{Idle}
 use Rattle.trace_lint.proofs.AllFound.{list_numbered}
 use Rattle.trace_lint.proofs.PartLaws.{contains_after, contains_first, idle_none, idle_nothing, none_idle, nothing_idle}
 use Rattle.trace_lint.proofs.FirstIdle.{not_first}

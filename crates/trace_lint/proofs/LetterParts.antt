@@ -9,7 +9,7 @@ use Rattle.names.specs.Permissions.{all_permissions, has}
 use Rattle.names.specs.declared.permissions.Permission.{Permission}
 use Rattle.names.specs.declared.permissions.Perms.{Perms}
 use Rattle.trace_lint.specs.Parts.{decides_none_of, held_by, idle_letters}
-use Rattle.trace_lint.specs.declared.finding.Part.{Part}
+use Rattle.trace_lint.specs.declared.findings.Part.{Part}
 
 module _ (rule : ℕ) (letters decided : Perms) where
   abbrev part_of : Permission → Part

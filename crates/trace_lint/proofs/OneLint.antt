@@ -16,9 +16,9 @@ use Rattle.rule_influence.specs.Influence.{AreDecided}
 use Rattle.rule_influence.specs.StandIns.{AreTheStandIns}
 use Rattle.rule_reader.specs.Spans.{spans_of}
 use Rattle.trace_lint.specs.Findings.{AreFindings, FindingValue, first_idle}
-use Rattle.trace_lint.specs.Linting.{IsLinted, answer_of, finding_in}
+use Rattle.trace_lint.specs.LintOutput.{IsLinted, answer_of, finding_in}
 use Rattle.trace_lint.specs.Parts.{case_of}
-use Rattle.trace_lint.specs.declared.finding.Part.{Part}
+use Rattle.trace_lint.specs.declared.findings.Part.{Part}
 use Rattle.trace_lint.proofs.PartLaws.{not_both}
 use Rattle.trace_lint.proofs.Tests.{one_test}
 use Rattle.trace_report.specs.Output.{Output}

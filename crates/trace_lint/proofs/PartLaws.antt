@@ -19,7 +19,7 @@ use Rattle.rule_influence.specs.Influence.{AreDecided, Decides, IsIdle}
 use Rattle.rule_influence.proofs.HitLaws.{lone_decides}
 use Rattle.trace_lint.specs.Parts.{case_of, decided_by, decides_none_of, decides_nothing, held_by, idle_letters}
 use Rattle.trace_lint.specs.Parts.{idle_parts, letters_of, no_perms, parts_of_rule}
-use Rattle.trace_lint.specs.declared.finding.Part.{Part}
+use Rattle.trace_lint.specs.declared.findings.Part.{Part}
 
 -- ---- elements
 

@@ -6,7 +6,7 @@ use Rattle.names.specs.declared.kind.RuleKind.{RuleKind}
 use Rattle.rule_explain.specs.Explanations.{rule_place}
 use Rattle.rule_profile.specs.declared.profile.Span.{Span}
 use Rattle.trace_lint.specs.Lines.{idle_text, why, work}
-use Rattle.trace_lint.specs.declared.finding.Idle.{Idle}
+use Rattle.trace_lint.specs.declared.findings.Idle.{Idle}
 use Rattle.trace_lint.specs.inner.Found.{or_place}
 
 pub piece : (base front more old new : List ℕ) → old ≡ base ++ front → new ≡ old ++ more → new ≡ base ++ (front ++ more)

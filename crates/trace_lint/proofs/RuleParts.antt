@@ -1,4 +1,4 @@
--- The parts of one rule more.
+-- The parts of one more rule.
 use Rattle.std.proofs.Common.{◌≡◌, ℕ, ◌+◌, ◌-◌, ◌<◌, List, ◌++◌, length, get_or, slice_get, sym, ap, ◌∙◌, arith}
 use Rattle.std.specs.List.{flat_map, range_with_len}
 use Rattle.std.specs.Option.{option_map_or}
@@ -7,7 +7,7 @@ use Rattle.std.proofs.lemmas.Option.{slice_get-get_or}
 use Rattle.names.specs.declared.permissions.Perms.{Perms}
 use Rattle.rule_globs.specs.Rules.{RuleValue}
 use Rattle.trace_lint.specs.Parts.{decided_by, letters_of, no_perms, parts_of_rule}
-use Rattle.trace_lint.specs.declared.finding.Part.{Part}
+use Rattle.trace_lint.specs.declared.findings.Part.{Part}
 use Rattle.trace_lint.proofs.RuleNumbers.{each_more}
 
 module _ (rules : List RuleValue) (decided : List Perms) where

@@ -13,13 +13,13 @@ use Rattle.rule_globs.specs.Rules.{ProfileValue, RuleValue}
 use Rattle.rule_influence.specs.Influence.{AreDecided}
 use Rattle.rule_influence.specs.StandIns.{AreStandIns}
 use Rattle.rule_profile.specs.declared.profile.Span.{Span}
-use Rattle.rule_reader.specs.Reading.{outcome_of}
+use Rattle.rule_reader.specs.ReadText.{outcome_of}
 use Rattle.rule_reader.specs.Spans.{spans_of}
 use Rattle.rule_reader.specs.declared.fault.ReadFault.{ReadFault}
-use Rattle.trace_lint.specs.Linting.{IsLinted, IsLintOutput, IsLintOutputOf, answer_of, finding_in}
+use Rattle.trace_lint.specs.LintOutput.{IsLinted, IsLintOutput, IsLintOutputOf, answer_of, finding_in}
 use Rattle.trace_lint.specs.Parts.{case_of, idle_parts}
-use Rattle.trace_lint.specs.declared.finding.Part.{Part}
-use Rattle.trace_lint.specs.inner.Asking.{IsAnswered, IsCompileRefusal, IsQuestionRefusal, profile_with}
+use Rattle.trace_lint.specs.declared.findings.Part.{Part}
+use Rattle.trace_lint.specs.inner.Questions.{IsAnswered, IsCompileRefusal, IsQuestionRefusal, profile_with}
 use Rattle.trace_lint.specs.inner.Found.{all_found}
 use Rattle.trace_lint.proofs.AllFound.{are_findings}
 use Rattle.trace_report.specs.Fault.{AreGood, IsFaultOfAnswer}
@@ -128,7 +128,7 @@ unread format text f (inl e) = subst (IsFaultOfAnswer (IsLintOutput format text)
 -- ---- endings
 
 module _ (streams : Streams) (Wanted : Output → Type 0) (output : Output) (of : Wanted output) (good : AreGood Wanted) where
-  -- an output that is wanted is one of those that are
+  -- an ending with this output is one with an output that may be written
   one_of : (status : Status) → EndsAnswered streams (λ o. o ≡ output) status → EndsAnswered streams Wanted status
   one_of Done h = (h.0, subst Wanted (sym h.1) of, h.2)
   one_of Unmet h = (h.0, subst Wanted (sym h.1) of, h.2)

@@ -5,8 +5,8 @@ use Rattle.names.specs.declared.permissions.Perms.{Perms}
 use Rattle.rule_globs.specs.Rules.{RuleValue}
 use Rattle.rule_influence.specs.StandIns.{AreTheStandIns}
 use Rattle.trace_lint.specs.Parts.{case_of, decided_by, decides_none_of, decides_nothing, idle_parts}
-use Rattle.trace_lint.specs.declared.finding.Idle.{Idle}
-use Rattle.trace_lint.specs.declared.finding.Part.{Part}
+use Rattle.trace_lint.specs.declared.findings.Idle.{Idle}
+use Rattle.trace_lint.specs.declared.findings.Part.{Part}
 
 -- a part of a rule that decides nothing
 pub record FindingValue : Type 0 where

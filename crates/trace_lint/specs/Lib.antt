@@ -2,5 +2,5 @@ pub mod Parts
 pub mod Findings
 pub mod Lines
 pub mod Values
-pub mod Linting
+pub mod LintOutput
 pub mod inner

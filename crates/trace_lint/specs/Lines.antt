@@ -10,7 +10,7 @@ use Rattle.rule_explain.specs.Explanations.{rule_place, text_of_rule}
 use Rattle.rule_globs.specs.Rules.{RuleValue}
 use Rattle.rule_profile.specs.declared.profile.Span.{Span}
 use Rattle.trace_lint.specs.Findings.{FindingValue}
-use Rattle.trace_lint.specs.declared.finding.Idle.{Idle}
+use Rattle.trace_lint.specs.declared.findings.Idle.{Idle}
 
 -- the kind of the rule with this number
 abbrev pub kind_of : List RuleValue → ℕ → RuleKind

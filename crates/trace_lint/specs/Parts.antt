@@ -7,8 +7,8 @@ use Rattle.names.specs.Permissions.{all_permissions, has, held, only, set_of}
 use Rattle.names.specs.declared.permissions.Permission.{Permission}
 use Rattle.names.specs.declared.permissions.Perms.{Perms}
 use Rattle.rule_globs.specs.Rules.{RuleValue}
-use Rattle.rule_influence.specs.declared.standing.IdleCase.{IdleCase}
-use Rattle.trace_lint.specs.declared.finding.Part.{Part}
+use Rattle.rule_influence.specs.declared.substitutes.IdleCase.{IdleCase}
+use Rattle.trace_lint.specs.declared.findings.Part.{Part}
 
 abbrev pub no_perms : Perms
 no_perms = set_of (λ p. false)

@@ -11,7 +11,7 @@ use Rattle.serde_json.specs.Data.{Data, array, member, no_members, null, object,
 use Rattle.serde_json.specs.View.{items_of}
 use Rattle.trace_lint.specs.Findings.{FindingValue}
 use Rattle.trace_lint.specs.Lines.{kind_of}
-use Rattle.trace_lint.specs.declared.finding.Idle.{Idle}
+use Rattle.trace_lint.specs.declared.findings.Idle.{Idle}
 
 -- what is found about a part, by the kind of its rule and its stand-ins
 abbrev pub finding_word : RuleKind → List ℕ → List ℕ

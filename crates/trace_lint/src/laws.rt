@@ -6,9 +6,9 @@ ghost use Rattle.names.specs.Permissions.{has, held};
 ghost use Rattle.rule_globs.specs.Rules.{RuleValue};
 ghost use Rattle.rule_influence.specs.Influence.{AreDecided, IsIdle};
 ghost use Rattle.trace_lint.specs.Findings.{AreFindings, FindingValue};
-ghost use Rattle.trace_lint.specs.Linting.{IsLinted};
+ghost use Rattle.trace_lint.specs.LintOutput.{IsLinted};
 ghost use Rattle.trace_lint.specs.Parts.{case_of, held_by, idle_parts, letters_of};
-ghost use Rattle.trace_lint.specs.declared.finding.Idle.{Idle};
+ghost use Rattle.trace_lint.specs.declared.findings.Idle.{Idle};
 ghost use Rattle.trace_report.specs.Output.{Output};
 ghost use Rattle.trace_report.specs.declared.format.Format.{Format};
 

@@ -4,17 +4,17 @@
 //! The definitions to believe are those in `specs/`; those in `specs/inner/` are of private contracts and proofs.
 #![tactic(auto)]
 
-mod asking;
-mod deciding;
-mod finding;
+mod decisions;
+mod findings;
 mod laws;
 mod lines;
-mod linting;
+mod lint_command;
 mod parts;
+mod questions;
 mod texts;
 mod values;
 
 pub use laws::{
     idle_parts_are_reported, lines_warn_of_idle_stand_ins, one_lint, reported_parts_are_idle,
 };
-pub use linting::lint;
+pub use lint_command::lint;

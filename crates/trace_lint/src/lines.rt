@@ -3,10 +3,10 @@ ghost use Rattle.std.specs.Prelude.{◌≡◌, ◌++◌, Some, IfOk, OnOk, flat_
 ghost use Rattle.rule_profile.specs.Profile.{profile_value};
 ghost use Rattle.rule_profile.specs.RuleSpans.{profile_spans};
 ghost use Rattle.trace_lint.specs.Lines.{caveat, finding_line, idle_text, said, unaided, why, work};
-ghost use Rattle.trace_lint.specs.Linting.{finding_in};
+ghost use Rattle.trace_lint.specs.LintOutput.{finding_in};
 ghost use Rattle.trace_lint.specs.inner.Found.{AreNumbers, HaveNumbers, IsNumber, ListsHaveNumbers, all_found, finding_value};
 
-use crate::finding::{Finding, Idle, Part};
+use crate::findings::{Finding, Idle, Part};
 use crate::parts::case_of;
 use crate::texts::{Linted, put, put_letter};
 use crate::values::finding_object;

@@ -4,8 +4,8 @@ ghost use Rattle.rule_profile.specs.Profile.{profile_value, rule_value};
 ghost use Rattle.trace_lint.specs.Parts.{case_of, held_by, idle_letters, idle_parts, parts_of_rule};
 ghost use Rattle.trace_lint.specs.inner.Found.{HaveNumbers, IsNumber};
 
-use crate::deciding::{decides_none_of, decides_nothing};
-use crate::finding::Part;
+use crate::decisions::{decides_none_of, decides_nothing};
+use crate::findings::Part;
 use names::{NoMemory, Permission, Perms};
 use rule_influence::IdleCase;
 use rule_profile::{Profile, Rule};

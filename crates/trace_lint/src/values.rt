@@ -9,7 +9,7 @@ ghost use Rattle.serde_json.specs.Written.{has_float};
 ghost use Rattle.trace_lint.specs.Values.{finding_object, finding_word, letter_value, number_of, rules_array};
 ghost use Rattle.trace_lint.specs.inner.Found.{AreNumbers, IsNumber, finding_value};
 
-use crate::finding::{Finding, Idle};
+use crate::findings::{Finding, Idle};
 use crate::texts::Linted;
 use answer_json::rule_object;
 use names::{NoMemory, Permission, RuleKind};

@@ -7,7 +7,7 @@ use Rattle.trace_questions.specs.declared.report.Report.{Report}
 use Rattle.trace_report.specs.Streams.{EndsAnswered, IsTextOf, Streams}
 use Rattle.trace_report.specs.declared.status.Status.{Status}
 
--- whether a name is wanted for each rule
+-- whether a name is requested for each rule
 abbrev pub witnesses_of : Bool → Witnesses
 witnesses_of true = EachRule
 witnesses_of false = Least

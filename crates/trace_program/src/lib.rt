@@ -4,15 +4,15 @@
 //! The definitions to believe are those in `specs/`.
 #![tactic(auto)]
 
-mod importing;
-mod judging;
+mod import;
+mod judgment;
 mod plain;
 mod program;
 mod questions;
 mod script;
 mod steps;
 mod storm;
-mod testing;
+mod test;
 
 pub use plain::run_plain;
 pub use program::run_words;

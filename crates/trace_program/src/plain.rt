@@ -1,11 +1,11 @@
 //! The engine of `run` over a tree in plain memory, in one thread.
 ghost use Rattle.std.specs.Prelude.{ℕ, List};
 ghost use Rattle.glob_automaton.specs.Automata.{StateLimit};
-ghost use Rattle.trace_report.specs.Streams.{IsTextOf};
+ghost use Rattle.trace_report.specs.Streams.{IsTextOf, streams};
 ghost use Rattle.trace_script.specs.RunOutput.{RunEnds};
 
 use names::NoMemory;
-use plain_bench::PlainBench;
+use script_bench::PlainBench;
 use std::alloc::Global;
 use std::io::{BufRead, Write};
 use trace_report::{Status, fail};
@@ -21,12 +21,7 @@ pub fn run_plain<R: BufRead, A: Write, F: Write>(
     faults: &mut F,
 ) -> Status
     ensures { (limit : StateLimit) → (text : List ℕ) × IsTextOf (R.remaining input.old) text × RunEnds limit
-        (record {
-          answers_before = A.contents answers.old;
-          answers_after = A.contents answers.new;
-          faults_before = F.contents faults.old;
-          faults_after = F.contents faults.new;
-        })
+        (streams (A.contents answers.old) (A.contents answers.new) (F.contents faults.old) (F.contents faults.new))
         (R.remaining input.old) (R.remaining input.new) capacity text result }
 {
     match PlainBench::new(alloc, capacity as usize) {

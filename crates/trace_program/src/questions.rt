@@ -2,16 +2,16 @@
 ghost use Rattle.std.specs.Prelude.{◌≡◌, ◌||◌, ℕ, IsTrue, List, Some, is_err, is_some, option_map, true};
 ghost use Rattle.std.specs.Io.KnownBytes.{Keeps};
 ghost use Rattle.glob_automaton.specs.Automata.{StateLimit};
-ghost use Rattle.trace_line.specs.CommandLine.{profile_value};
+ghost use Rattle.trace_arguments.specs.CommandLine.{profile_value};
 ghost use Rattle.trace_program.specs.Program.{ProgramEnds, reads_nothing};
 ghost use Rattle.trace_program.specs.Questions.{DiffEnds, text_named, witnesses_of};
 ghost use Rattle.trace_questions.specs.Differences.{below_asked};
-ghost use Rattle.trace_report.specs.Streams.{IsTextOf};
+ghost use Rattle.trace_report.specs.Streams.{IsTextOf, streams};
 
 use named_texts::{LateText, NamedTexts};
 use std::alloc::Global;
 use std::io::{Read, Write};
-use trace_line::{DiffQuestion, ProfileQuestion};
+use trace_arguments::{DiffQuestion, ProfileQuestion};
 use trace_lint::lint;
 use trace_questions::{Quantifier, Report, Witnesses, differ, search};
 use trace_report::Status;
@@ -27,12 +27,8 @@ pub(crate) fn ask_of_profile<T: NamedTexts, R: Read, A: Write, F: Write>(
 ) -> Status
     ensures output { (limit : StateLimit) → (text : List ℕ) × IsTextOf (R.remaining input.old) text
         × ProgramEnds limit (T.known texts.now) (Some (profile_value question.entry)) text
-        (record {
-          answers_before = A.contents answers.old;
-          answers_after = A.contents answers.new;
-          faults_before = F.contents faults.old;
-          faults_after = F.contents faults.new;
-        }) (R.remaining input.old) (R.remaining input.new) result }
+        (streams (A.contents answers.old) (A.contents answers.new) (F.contents faults.old) (F.contents faults.new))
+        (R.remaining input.old) (R.remaining input.new) result }
     ensures unread { reads_nothing (Some (profile_value question.entry)) ≡ true
         → Keeps (R.remaining input.old) (R.remaining input.new) }
 {
@@ -63,7 +59,7 @@ pub(crate) fn ask_of_profile<T: NamedTexts, R: Read, A: Write, F: Write>(
     }
 }
 
-/// Which witnesses are wanted: one for each rule, or the least.
+/// Which witnesses are requested: one for each rule, or the least.
 fn witnesses_of(each_rule: bool) -> Witnesses
     ensures { result ≡ witnesses_of each_rule }
 {
@@ -88,12 +84,7 @@ fn diff<T: NamedTexts, R: Read, A: Write, F: Write>(
         (record { witnesses = witnesses_of asked.entry.each_rule; format = asked.entry.format })
         (option_map (λ below. below.now) asked.entry.below) (T.known texts.now asked.entry.old.now)
         (text_named (T.known texts.now) text (option_map (λ new. new.now) asked.entry.new))
-        (record {
-          answers_before = A.contents answers.old;
-          answers_after = A.contents answers.new;
-          faults_before = F.contents faults.old;
-          faults_after = F.contents faults.new;
-        }) result }
+        (streams (A.contents answers.old) (A.contents answers.new) (F.contents faults.old) (F.contents faults.new)) result }
     ensures unread { IsTrue (is_some asked.entry.new || is_err (below_asked (option_map (λ below. below.now) asked.entry.below)))
         → Keeps (R.remaining input.old) (R.remaining input.new) }
 {

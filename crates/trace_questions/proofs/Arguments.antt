@@ -6,7 +6,7 @@ use Rattle.names.specs.declared.permissions.Perms.{Perms}
 use Rattle.rule_globs.specs.Rules.{RuleValue, ProfileValue}
 use Rattle.rule_globs.specs.Tokens.{Token}
 use Rattle.rule_profile.specs.declared.profile.Span.{Span}
-use Rattle.rule_reader.specs.Reading.{outcome_of}
+use Rattle.rule_reader.specs.ReadText.{outcome_of}
 use Rattle.rule_reader.specs.Spans.{spans_of}
 use Rattle.rule_reader.specs.declared.fault.ReadFault.{ReadFault}
 use Rattle.trace_questions.specs.Asked.{asked_of}
@@ -15,7 +15,7 @@ use Rattle.trace_questions.specs.Search.{IsSearchOutput, IsSearchOutputFor, IsSe
 use Rattle.trace_questions.specs.Search.{nothing_text, search_text}
 use Rattle.trace_questions.specs.declared.answer.Answer.{Answer}
 use Rattle.question_answers.specs.declared.quantifier.Quantifier.{Quantifier}
-use Rattle.trace_questions.specs.inner.Asking.{IsAnswered}
+use Rattle.trace_questions.specs.inner.Questions.{IsAnswered}
 use Rattle.trace_questions.proofs.Endings.{found_good, refused_good}
 use Rattle.trace_report.specs.Fault.{AreGood, IsFaultOfAnswer, fault_text}
 use Rattle.trace_report.specs.declared.format.Format.{Format}

@@ -13,7 +13,7 @@ use Rattle.question_answers.specs.declared.side.Side.{Side}
 use Rattle.question_answers.specs.declared.side.Side.TheVariants.{New, Old}
 use Rattle.rule_globs.specs.Rules.{ProfileValue, RuleValue}
 use Rattle.rule_globs.specs.Tokens.{Token}
-use Rattle.rule_reader.specs.Reading.{outcome_of}
+use Rattle.rule_reader.specs.ReadText.{outcome_of}
 use Rattle.rule_reader.specs.declared.fault.ReadFault.{ReadFault}
 use Rattle.rule_reader.specs.declared.fault.ReadFault.TheVariants as reading
 use Rattle.trace_questions.specs.Differences.{IsCompared, IsDiffOf, IsDiffOutputFor, IsDiffOutputOf, IsRefusedDiff, Versions, answer_of}
@@ -23,8 +23,8 @@ use Rattle.trace_report.specs.declared.format.Format.{Format}
 use Rattle.trace_questions.specs.declared.answer.Answer.{Answer}
 use Rattle.trace_questions.specs.declared.sides.SideFault.{SideFault}
 use Rattle.trace_questions.specs.declared.sides.SideFault.TheVariants.{Neither, Of}
-use Rattle.trace_questions.specs.inner.Comparing.{IsCompileRefusal, IsQuestionRefusal}
-use Rattle.trace_questions.specs.inner.Differing.{IsCompileRefusalIn, IsDiffAnswer, IsSideFaultOf}
+use Rattle.trace_questions.specs.inner.Comparisons.{IsCompileRefusal, IsQuestionRefusal}
+use Rattle.trace_questions.specs.inner.Differences.{IsCompileRefusalIn, IsDiffAnswer, IsSideFaultOf}
 use Rattle.trace_questions.specs.inner.Sides.{side_fault_of, side_fault_status, side_fault_text}
 use Rattle.trace_questions.proofs.Endings.{found_good, refused_good}
 use Rattle.trace_questions.proofs.Refused.{compile_cases, compile_refused, question_refused}
@@ -119,7 +119,7 @@ pub same_versions : (old new : List ℕ) (one two first second : List RuleValue)
 same_versions old new one two first second e1 e2 =
     ap (λ (rules : List RuleValue). versions_of old rules new two) e1 ∙ ap (λ (rules : List RuleValue). versions_of old first new rules) e2
 
--- what is wanted of two texts that were read
+-- what may be written of two texts that were read
 pub of_texts : (w : Report) (below : Option (List Token)) (old new : List ℕ) (one two : ProfileValue)
     (first second : Result ProfileValue ReadFault) (r : Result Answer SideFault) → first ≡ Ok one → second ≡ Ok two →
     IsDiffAnswer (IsDiffOf w below (versions_of old one.rules new two.rules)) r →

@@ -16,7 +16,7 @@ found_good output bytes true e = rw e (λ bad. cc)
 found_good output bytes false e = rw e (λ bad. cc)
 
 module _ (streams : Streams) (Wanted : Output → Type 0) (output : Output) (of : Wanted output) (good : AreGood Wanted) where
-  -- an output that is wanted is one of those that are
+  -- an ending with this output is one with an output that may be written
   one_of : (status : Status) → EndsAnswered streams (λ o. o ≡ output) status → EndsAnswered streams Wanted status
   one_of Done h = (h.0, subst Wanted (sym h.1) of, h.2)
   one_of Unmet h = (h.0, subst Wanted (sym h.1) of, h.2)

@@ -7,8 +7,8 @@ use Rattle.profile_questions.specs.Faults.{IsQuestionFault}
 use Rattle.profile_questions.specs.declared.fault.QuestionFault.TheVariants as question
 use Rattle.rule_globs.specs.Rules.{RuleValue}
 use Rattle.trace_questions.specs.declared.answer.Answer.{Answer}
-use Rattle.trace_questions.specs.inner.Asking.{IsAnswered}
-use Rattle.trace_questions.specs.inner.Comparing.{IsCompileRefusal, IsQuestionRefusal}
+use Rattle.trace_questions.specs.inner.Questions.{IsAnswered}
+use Rattle.trace_questions.specs.inner.Comparisons.{IsCompileRefusal, IsQuestionRefusal}
 use Rattle.trace_report.specs.Fault.{IsFaultOfAnswer}
 use Rattle.trace_report.specs.Output.{Output, compile_refusal, fault, question_refusal}
 use Rattle.trace_report.specs.declared.fault.Fault.{Fault}

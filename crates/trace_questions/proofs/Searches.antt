@@ -17,8 +17,8 @@ use Rattle.rule_reader.specs.declared.fault.ReadFault.{ReadFault}
 use Rattle.trace_questions.specs.Refusals.{IsAnswerable}
 use Rattle.trace_questions.specs.Search.{IsSearchOf, IsSearchOutputOf, search_text}
 use Rattle.trace_questions.specs.declared.answer.Answer.{Answer}
-use Rattle.trace_questions.specs.inner.Asking.{IsAnswered}
-use Rattle.trace_questions.specs.inner.Comparing.{IsCompileRefusal, IsQuestionRefusal}
+use Rattle.trace_questions.specs.inner.Questions.{IsAnswered}
+use Rattle.trace_questions.specs.inner.Comparisons.{IsCompileRefusal, IsQuestionRefusal}
 use Rattle.trace_questions.proofs.Refused.{compile_refused, question_refused}
 use Rattle.trace_report.specs.Fault.{IsFaultOfAnswer}
 use Rattle.trace_report.specs.declared.format.Format.{Format}
@@ -26,7 +26,7 @@ use Rattle.trace_report.specs.Output.{Output}
 use Rattle.trace_report.specs.declared.fault.Fault.{Fault}
 
 module _ (format : Format) (q : Quantifier) (ask : Perms) (path : List Token) (text : List ℕ) where
-  -- what is wanted of a text that was read
+  -- what may be written of a text that was read
   pub of_text : (profile : ProfileValue) (rules : List RuleValue) (outcome : Result ProfileValue ReadFault) (r : Result Answer Fault) →
       outcome ≡ Ok profile → rules ≡ profile.rules → IsAnswered (IsSearchOf format q ask path text rules) r →
       IsAnswered (IsSearchOutputOf format q ask path text outcome) r

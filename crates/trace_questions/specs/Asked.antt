@@ -3,7 +3,7 @@ use Rattle.std.specs.Prelude.{ℕ, List, Some, None, Result, Ok, Err, codes}
 use Rattle.derived_profiles.specs.Pattern.{pattern_path}
 use Rattle.names.specs.declared.permissions.Perms.{Perms}
 use Rattle.rule_globs.specs.Tokens.{Token}
-use Rattle.trace_report.specs.Reading.{asked_by}
+use Rattle.trace_report.specs.ReadStreams.{asked_by}
 
 -- the path that the pattern is, or the message about it
 abbrev pub path_asked : List ℕ → Result (List Token) (List ℕ)

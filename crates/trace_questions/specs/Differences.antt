@@ -12,7 +12,7 @@ use Rattle.rule_explain.specs.Explanations.{reason_text}
 use Rattle.rule_explain.specs.Reasons.{reason}
 use Rattle.rule_globs.specs.Rules.{RuleValue, ProfileValue}
 use Rattle.rule_globs.specs.Tokens.{Token}
-use Rattle.rule_reader.specs.Reading.{outcome_of}
+use Rattle.rule_reader.specs.ReadText.{outcome_of}
 use Rattle.rule_reader.specs.Spans.{spans_of}
 use Rattle.rule_reader.specs.declared.fault.ReadFault.{ReadFault}
 use Rattle.trace_questions.specs.Asked.{path_asked}
@@ -77,7 +77,7 @@ abbrev pub answer_of : Format → List ℕ → Output
 answer_of format [] = finding (words_text format (codes "same")) false
 answer_of format (b ∷ lines) = finding (b ∷ lines) true
 
--- no name is taken where only names that a path takes are compared
+-- no name is matched where only names that a path matches are compared
 abbrev pub TakesNone : Option (List Token) → Type 0
 TakesNone below = (name : List ℕ) → ¬ (IsBelow below name)
 

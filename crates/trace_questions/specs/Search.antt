@@ -7,7 +7,7 @@ use Rattle.rule_explain.specs.Explanations.{reason_lines}
 use Rattle.rule_globs.specs.Rules.{RuleValue, ProfileValue}
 use Rattle.rule_globs.specs.Tokens.{Token}
 use Rattle.rule_profile.specs.declared.profile.Span.{Span}
-use Rattle.rule_reader.specs.Reading.{outcome_of}
+use Rattle.rule_reader.specs.ReadText.{outcome_of}
 use Rattle.rule_reader.specs.Spans.{spans_of}
 use Rattle.rule_reader.specs.declared.fault.ReadFault.{ReadFault}
 use Rattle.answer_json.specs.Lines.{json_line}

@@ -2,14 +2,15 @@
 use Rattle.std.specs.Prelude.{ℕ, ◌+◌, ◌/◌, ◌%◌, Bool, not, ◌&&◌, ◌==◌, List, [], ◌∷◌, if◌then◌else◌}
 use Rattle.std.specs.Char.{is_ascii_control}
 use Rattle.std.specs.List.{flat_map}
+use Rattle.names.specs.Ascii as ascii
 
--- no control byte, and no backslash (92)
+-- no control byte, and no backslash
 abbrev pub is_plain : ℕ → Bool
-is_plain b = not (is_ascii_control b) && not (b == 92)
+is_plain b = not (is_ascii_control b) && not (b == ascii.backslash)
 
 -- a backslash, and the byte's number in three octal digits, as proc_pid_mounts(5) has it
 abbrev pub octal : ℕ → List ℕ
-octal b = 92 ∷ (48 + b / 64) ∷ (48 + b / 8 % 8) ∷ (48 + b % 8) ∷ []
+octal b = ascii.backslash ∷ (48 + b / 64) ∷ (48 + b / 8 % 8) ∷ (48 + b % 8) ∷ []
 
 abbrev pub shown_byte : ℕ → List ℕ
 shown_byte b = if is_plain b then b ∷ [] else octal b

@@ -1,5 +1,5 @@
-pub mod Asking
-pub mod Comparing
+pub mod Questions
+pub mod Comparisons
 pub mod Sides
-pub mod Differing
+pub mod Differences
 pub mod Objects

@@ -7,7 +7,7 @@ ghost use Rattle.rule_reader.specs.Spans.{spans_of};
 ghost use Rattle.question_answers.specs.Alone.{AreAlone};
 ghost use Rattle.question_answers.specs.LeastNames.{listed};
 ghost use Rattle.trace_questions.specs.Differences.{IsCompared, difference_text, sign, words_text};
-ghost use Rattle.trace_questions.specs.inner.Differing.{AreCompared, versions_value};
+ghost use Rattle.trace_questions.specs.inner.Differences.{AreCompared, versions_value};
 ghost use Rattle.trace_report.specs.Output.{finding};
 ghost use Rattle.trace_report.specs.declared.format.Format.TheVariants.{Text};
 
@@ -35,7 +35,7 @@ pub(crate) struct Versions<'a> {
 /// Which names are compared, and which of them are listed.
 #[derive(Clone, Copy)]
 pub(crate) struct Listing {
-    /// Only those that the third rules take are compared.
+    /// Only those that the third rules match are compared.
     pub(crate) restricted: bool,
     pub(crate) report: Report,
 }

@@ -3,20 +3,20 @@ ghost use Rattle.std.specs.Prelude.{◌≡◌, ℕ, List, Option, IfErr, IfOk, I
 ghost use Rattle.std.specs.Io.KnownBytes.{Keeps};
 ghost use Rattle.glob_automaton.specs.Automata.{most_sets};
 ghost use Rattle.glob_automaton.specs.Sets.{AreMoreThan};
-ghost use Rattle.rule_reader.specs.Reading.{outcome_of};
+ghost use Rattle.rule_reader.specs.ReadText.{outcome_of};
 ghost use Rattle.rule_globs.specs.Tokens.{Token};
 ghost use Rattle.rule_profile.specs.Profile.{profile_value};
 ghost use Rattle.rule_profile.specs.RuleSpans.{profile_spans};
 ghost use Rattle.trace_questions.specs.Differences.{IsDiffOf, IsDiffOutput, IsDiffOutputOf, below_asked, versions_of};
 ghost use Rattle.rule_reader.specs.Spans.{spans_of};
-ghost use Rattle.trace_questions.specs.inner.Asking.{IsAnswered};
-ghost use Rattle.trace_questions.specs.inner.Differing.{IsBelowAsked, IsCompileRefusalIn, IsDiffAnswer, IsOfBelow, IsProfileIn};
-ghost use Rattle.trace_report.specs.Streams.{EndsAnswered, IsTextOf};
+ghost use Rattle.trace_questions.specs.inner.Questions.{IsAnswered};
+ghost use Rattle.trace_questions.specs.inner.Differences.{IsBelowAsked, IsCompileRefusalIn, IsDiffAnswer, IsOfBelow, IsProfileIn};
+ghost use Rattle.trace_report.specs.Streams.{EndsAnswered, IsTextOf, streams};
 
 use crate::answer::Answer;
-use crate::asking::pattern_of;
 use crate::changes::{Listing, Versions, changes};
-use crate::comparing::{compared, compiled};
+use crate::comparison::{compared, compiled};
+use crate::questions::pattern_of;
 use crate::report::Report;
 use crate::sides::SideFault;
 use derived_profiles::without_rules;
@@ -31,7 +31,7 @@ use trace_report::{Fault, Status, fail, read_all, write_finding};
 
 /// Reads two profiles and writes to `answers`, for each permission, the least name that the new one alone allows it to, and the
 /// least that the old one alone does, with the reasons by both; or for each pair of reasons the least such name, in ascending order;
-/// or `same`. With a pattern, only names that it takes are compared. Faults are reported on `faults` instead. The pattern is tested
+/// or `same`. With a pattern, only names that it matches are compared. Faults are reported on `faults` instead. The pattern is tested
 /// before anything is read, and the old profile is read first.
 pub fn differ<O: Read, N: Read, A: Write, F: Write>(
     alloc: Global,
@@ -44,12 +44,7 @@ pub fn differ<O: Read, N: Read, A: Write, F: Write>(
 ) -> Status
     ensures output { (before after : List ℕ) × IsTextOf (O.remaining old.old) before × IsTextOf (N.remaining new.old) after
         × EndsAnswered
-        (record {
-          answers_before = A.contents answers.old;
-          answers_after = A.contents answers.new;
-          faults_before = F.contents faults.old;
-          faults_after = F.contents faults.new;
-        })
+        (streams (A.contents answers.old) (A.contents answers.new) (F.contents faults.old) (F.contents faults.new))
         (IsDiffOutput report (option_map (λ pattern. pattern.now) below.entry) before after) result }
     ensures unread { IsErr (below_asked (option_map (λ pattern. pattern.now) below.entry))
         → Keeps (O.remaining old.old) (O.remaining old.new) × Keeps (N.remaining new.old) (N.remaining new.new) }
@@ -90,7 +85,7 @@ struct Texts<'a> {
     after: &'a [u8],
 }
 
-// Names that are compared: those that a profile's one rule takes, or all.
+// Names that are compared: those that a profile's one rule matches, or all.
 #[derive(Drop)]
 struct Below {
     profile: Profile,

@@ -5,17 +5,17 @@
 #![tactic(auto)]
 
 mod answer;
-mod asking;
 mod changes;
-mod comparing;
+mod comparison;
 mod difference;
 mod objects;
+mod questions;
 mod report;
-mod searching;
+mod search_command;
 mod shown;
 mod sides;
 
 pub use difference::differ;
 pub use question_answers::{Quantifier, Side, Witnesses};
 pub use report::Report;
-pub use searching::search;
+pub use search_command::search;

@@ -9,7 +9,8 @@ use Rattle.trace_report.specs.declared.fault.Fault.TheVariants.{Permissions, Nam
 use Rattle.trace_report.specs.declared.fault.Fault.TheVariants.{Input, Memory}
 use Rattle.trace_report.specs.Fault.{fault_text, fault_status, IsFaultOf, IsFaultOfAnswer, IsFaultOfOne}
 use Rattle.trace_report.specs.Output.{Output, fault, line}
-use Rattle.trace_report.specs.Streams.{Streams, IsTextOf, IsTold, IsWritten, IsCutShort, AppendsFront, Ends, EndsAnswered, EndsInOne}
+use Rattle.trace_report.specs.Streams.{Streams, streams, IsTextOf, IsTold, IsWritten, IsCutShort, AppendsFront, Ends, EndsAnswered}
+use Rattle.trace_report.specs.Streams.{EndsInOne}
 
 -- whatever is known of a reader, some text may have been read
 pub text_of : (left : Option (List ℕ)) → (text : List ℕ) × IsTextOf left text
@@ -31,13 +32,7 @@ keeps (Some xs) = refl
 
 -- the streams of a command that reported a fault and wrote nothing else
 abbrev pub told_alone : Option (List ℕ) → Option (List ℕ) → Option (List ℕ) → Streams
-told_alone answers before after = record {
-  answers_before = answers;
-  answers_after = answers;
-  faults_before =
-      before;
-  faults_after = after;
-}
+told_alone answers before after = streams answers answers before after
 
 pub written : (answers before after : Option (List ℕ)) (output : Output) (told : List ℕ) (status : Status)
     → output ≡ fault told status → Appends before after (line told) → IsWritten (told_alone answers before after) output status
@@ -78,7 +73,7 @@ ends_told answers before after output Memory status of (inr h) =
 -- an answer of which a prefix was written, and then the message about that
 pub unanswered : (answers after faults told : Option (List ℕ)) (output : Output) (status : Status)
     → output.status ≡ Done → AppendsFront answers after output.answers → IsTold faults told (codes "refused: output") OutputFailed status
-    → Ends (record { answers_before = answers; answers_after = after; faults_before = faults; faults_after = told }) output status
+    → Ends (streams answers after faults told) output status
 unanswered answers after faults told output status done front (inl e) = rw e front
 unanswered answers after faults told output status done front (inr h) = rw h.0 (record { faults = h.1; answers = front; answer = done })
 

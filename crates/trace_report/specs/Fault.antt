@@ -45,11 +45,11 @@ IsFaultOf output Input = output.status ≢ BadArguments
 IsFaultOf output Memory = output.status ≢ BadArguments
 IsFaultOf output f = output ≡ fault (fault_text f) (fault_status f)
 
--- no wanted output reports bad arguments
+-- none of the outputs that may be written reports bad arguments
 abbrev pub AreGood : (Output → Type 0) → Type 0
 AreGood Wanted = (output : Output) → Wanted output → output.status ≢ BadArguments
 
--- the fault is one of the wanted outputs, or hides them, the arguments being good
+-- the fault is one of the outputs that may be written, or hides them, the arguments being good
 abbrev pub IsFaultOfOne : (Output → Type 0) → Fault → Type 0
 IsFaultOfOne Wanted Input = AreGood Wanted
 IsFaultOfOne Wanted Memory = AreGood Wanted

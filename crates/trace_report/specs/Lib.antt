@@ -2,4 +2,4 @@ pub mod Status
 pub mod Output
 pub mod Streams
 pub mod Fault
-pub mod Reading
+pub mod ReadStreams

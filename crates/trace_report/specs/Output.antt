@@ -1,7 +1,7 @@
 -- What a command writes and how it ends, memory and failures of the streams aside.
 use Rattle.std.specs.Prelude.{ℕ, Bool, List, [], ◌++◌, Option, Some, None, codes, decimal, unwrap_or, if◌then◌else◌}
 use Rattle.matcher.specs.declared.fault.MakeFault.{MakeFault}
-use Rattle.matcher.specs.Making.{fault_number as compile_number}
+use Rattle.matcher.specs.MakeFaults.{fault_number as compile_number}
 use Rattle.rule_reader.specs.declared.fault.ReadFault.{ReadFault}
 use Rattle.rule_reader.specs.FaultNumber.{fault_number, fault_offset}
 use Rattle.tables.specs.Bounds.{fault_index, fault_number as image_number}

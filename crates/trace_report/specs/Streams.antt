@@ -14,6 +14,10 @@ pub record Streams : Type 0 where
   pub faults_before : Option (List ℕ)
   pub faults_after : Option (List ℕ)
 
+-- what standard output has before and after, and then what standard error has
+abbrev pub streams : Option (List ℕ) → Option (List ℕ) → Option (List ℕ) → Option (List ℕ) → Streams
+streams answers after faults told = record { answers_before = answers; answers_after = after; faults_before = faults; faults_after = told }
+
 -- a prefix of the bytes was appended
 abbrev pub AppendsFront : Option (List ℕ) → Option (List ℕ) → List ℕ → Type 0
 AppendsFront before after bytes =
@@ -60,14 +64,14 @@ IsTextOf left text = IfSome left (λ known. text ≡ known)
 abbrev pub IsTold : Option (List ℕ) → Option (List ℕ) → List ℕ → Status → Status → Type 0
 IsTold before after told status result = (result ≡ FaultsFailed) ⊎ ((result ≡ status) × Appends before after (line told))
 
--- good arguments, and then a fault that the input says nothing about, whatever is wanted
+-- good arguments, and then a fault that the input says nothing about, whatever may be written
 pub record AreCutShort (streams : Streams) (Wanted : Output → Type 0) (told : List ℕ) : Type 0 where
   pub answers : Keeps streams.answers_before streams.answers_after
   pub faults : Appends streams.faults_before streams.faults_after (line told)
   pub arguments : (output : Output) → Wanted output → output.status ≢ BadArguments
 
 -- How a command that is to write one of several outputs ends. Where a message couldn't be written, nothing of an answer was
--- written, or a prefix of a wanted one.
+-- written, or a prefix of one that may be written.
 abbrev pub EndsInOne : Streams → (Output → Type 0) → Status → Type 0
 EndsInOne streams Wanted Done = (output : Output) × Wanted output × IsWritten streams output Done
 EndsInOne streams Wanted Unmet = ⊥

@@ -3,7 +3,7 @@ ghost use Rattle.std.specs.Prelude.{◌≡◌, ◌≢◌, ◌++◌, ℕ, Bool, L
 ghost use Rattle.trace_report.specs.Fault.{fault_status};
 ghost use Rattle.trace_report.specs.Output.{Output, finding, whole_answer};
 ghost use Rattle.trace_report.specs.Status.{status_code};
-ghost use Rattle.trace_report.specs.Streams.{Ends, EndsAnswered, IsTold, Streams};
+ghost use Rattle.trace_report.specs.Streams.{Ends, EndsAnswered, IsTold, Streams, streams};
 ghost use Rattle.trace_report.specs.declared.fault.Fault.{Fault};
 ghost use Rattle.trace_report.specs.declared.status.Status.{Status};
 ghost use Rattle.trace_report.specs.declared.status.Status.TheVariants.{Done, Unmet, BadArguments, Refused, InputFailed, NoMemory};
@@ -25,13 +25,7 @@ pub fn commands_end_as_they_are_to()
     ensures bad_arguments_without_memory { (streams : Streams) (output : Output) → output.status ≡ BadArguments →
         Ends streams output NoMemory → ⊥ }
     ensures part_of_an_answer { (before after bytes : List ℕ) (faults_before faults_after : Option (List ℕ)) → after ≢ before ++ bytes →
-        Ends (record {
-          answers_before = Some before;
-          answers_after = Some after;
-          faults_before = faults_before;
-          faults_after = faults_after;
-        })
-        (whole_answer bytes) Done → ⊥ }
+        Ends (streams (Some before) (Some after) faults_before faults_after) (whole_answer bytes) Done → ⊥ }
     ensures message_as_done { (before after : Option (List ℕ)) (text : List ℕ) (status : Status) → status ≢ Done →
         IsTold before after text status Done → ⊥ }
 {}

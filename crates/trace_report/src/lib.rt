@@ -7,13 +7,13 @@
 mod fault;
 mod format;
 mod laws;
-mod reading;
+mod reader;
+mod reports;
 mod status;
-mod telling;
 
 pub use fault::Fault;
 pub use format::Format;
 pub use laws::{commands_end_as_they_are_to, questions_end_as_they_are_answered, zero_is_done};
-pub use reading::{asked_by, read_all};
+pub use reader::{asked_by, read_all};
+pub use reports::{fail, write_answer, write_finding, write_through};
 pub use status::Status;
-pub use telling::{fail, write_answer, write_finding, write_through};

@@ -1,9 +1,11 @@
 pub mod Grammars
 pub mod LineWords
-pub mod Following
-pub mod Printing
+pub mod FollowedScripts
+pub mod Exact
+pub mod LineEnds
+pub mod PrintedLines
 pub mod LineReads
 pub mod ScriptRuns
 pub mod ScriptEndings
 pub mod LineTexts
-pub mod Publishing
+pub mod Publication

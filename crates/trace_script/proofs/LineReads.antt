@@ -13,7 +13,7 @@ use Rattle.std.proofs.lemmas.List.{append-nil}
 use Rattle.std.specs.declared.io.Error.{Error}
 use Rattle.std.specs.Prelude.{Result, Ok, Err}
 use Rattle.std.specs.Result.{IsErrAnd}
-use Rattle.trace_script.specs.declared.reading.LineRead.{LineRead}
+use Rattle.trace_script.specs.declared.reader.LineRead.{LineRead}
 use Rattle.trace_script.specs.declared.stop.Stop.{Stop}
 use Rattle.trace_script.specs.declared.stop.Stop.TheVariants.{NoCommand, Input, TooLong, Memory, Output}
 use Rattle.trace_script.specs.Engine.{IsStopOfReading, IsPartRead, IsLineRead}

@@ -8,15 +8,15 @@ use Rattle.trace_script.specs.declared.stop.Stop.TheVariants.{NoCommand, Input, 
 use Rattle.trace_report.specs.declared.status.Status.{Status}
 use Rattle.trace_report.specs.declared.status.Status.TheVariants.{Done, Refused}
 use Rattle.trace_script.specs.Engine.{stop_text, stop_status}
-use Rattle.trace_script.specs.Following.{IsFollowed, IsShort, lines_by}
-use Rattle.trace_script.specs.inner.Following.{run_engine}
+use Rattle.trace_script.specs.inner.FollowedScripts.{run_engine}
 use Rattle.trace_report.specs.Output.{Output as Written, line}
 use Rattle.mediation.specs.History.{History}
 use Rattle.trace_script.specs.RunOutput.{ScriptEnds, script_output, ended_output, printed_lines, text_of_lines}
 use Rattle.trace_script.specs.Script.{Script, script_of}
-use Rattle.trace_report.specs.Streams.{AppendsFront, IsTold, IsWritten, Streams}
-use Rattle.trace_script.proofs.Following.{text_of_lines-append}
-use Rattle.trace_script.proofs.Printing.{first_run_lines_are, run_lines_are}
+use Rattle.trace_report.specs.Streams.{AppendsFront, IsTold, IsWritten, Streams, streams}
+use Rattle.trace_script.proofs.Exact.{IsFollowedBy, IsShortBy, lines_by}
+use Rattle.trace_script.proofs.FollowedScripts.{text_of_lines-append}
+use Rattle.trace_script.proofs.PrintedLines.{first_run_lines_are, run_lines_are}
 use Rattle.trace_report.proofs.Endings.{appends_nothing}
 
 output_is : (limit : StateLimit) (history : History) (script : Script) (stopped : Option ℕ) → script.stopped ≡ stopped →
@@ -44,17 +44,17 @@ first_lines a b all count h = (
 )
 
 module _ (limit : StateLimit) (history now : History) (text : List ℕ) (left after a b f t : Option (List ℕ)) where
-  abbrev streams : Streams
-  streams = record { answers_before = a; answers_after = b; faults_before = f; faults_after = t }
+  abbrev both : Streams
+  both = streams a b f t
 
   abbrev lines : List (List ℕ)
   lines = printed_lines limit history (script_of text).commands
 
   abbrev Follows : Stop → Type 0
-  Follows stop = IsFollowed (run_engine limit) {T = Unit {0}} history left after text now a b (Err stop)
+  Follows stop = IsFollowedBy (run_engine limit) {T = Unit {0}} history left after text now a b (Err stop)
 
   -- the first lines were written
-  short_lines : (h : IsShort (run_engine limit) history left after text a b) → Appends a b (text_of_lines (take h.0 lines))
+  short_lines : (h : IsShortBy (run_engine limit) history left after text a b) → Appends a b (text_of_lines (take h.0 lines))
   short_lines h = rw (first_run_lines_are limit history h.0 (script_of text).commands) at h.2
 
   front_stands : (stop : Stop) → Follows stop → AppendsFront a b (text_of_lines lines)
@@ -65,14 +65,14 @@ module _ (limit : StateLimit) (history now : History) (text : List ℕ) (left af
   front_stands Memory h = first_lines a b lines h.0 (short_lines h)
   front_stands Output h = rw (run_lines_are limit history (script_of text).commands) at h
 
-  told_so : (stop : Stop) → Follows stop → Appends f t (line (stop_text stop)) → ScriptEnds limit streams left after history text
+  told_so : (stop : Stop) → Follows stop → Appends f t (line (stop_text stop)) → ScriptEnds limit both left after history text
       (stop_status stop)
   told_so (NoCommand number) h told =
       let wanted = output_is limit history (script_of text) (Some number) h.0 in
       let answers = rw (run_lines_are limit history (script_of text).commands) at h.1 in
-      let written : IsWritten streams (ended_output lines (Some number)) Refused =
+      let written : IsWritten both (ended_output lines (Some number)) Refused =
       record { answers = answers; faults = told; ends = refl } in
-      let P : Written → Type 0 = λ output. IsWritten streams output Refused in
+      let P : Written → Type 0 = λ output. IsWritten both output Refused in
       subst P (sym wanted) written
   told_so Input h told = record { count = h.0; read = h.1; answers = short_lines h; faults = told }
   told_so TooLong h told = record { count = h.1.0; read = h.1.1; answers = short_lines h.1; faults = told }
@@ -80,24 +80,24 @@ module _ (limit : StateLimit) (history now : History) (text : List ℕ) (left af
   told_so Output h told = record { answers = rw (answers_are limit history (script_of text)) at (front_stands Output h); faults = told }
 
   pub script_ends : (stop : Stop) (status : Status) → Follows stop → IsTold f t (stop_text stop) (stop_status stop) status →
-      ScriptEnds limit streams left after history text status
+      ScriptEnds limit both left after history text status
   script_ends stop status h (inl e) =
       let front = front_stands stop h in
-      let P : Status → Type 0 = λ status. ScriptEnds limit streams left after history text status in
+      let P : Status → Type 0 = λ status. ScriptEnds limit both left after history text status in
       subst P (sym e) (rw (answers_are limit history (script_of text)) at front)
   script_ends stop status h (inr (e, told)) =
-      let P : Status → Type 0 = λ status. ScriptEnds limit streams left after history text status in
+      let P : Status → Type 0 = λ status. ScriptEnds limit both left after history text status in
       subst P (sym e) (told_so stop h told)
 
 -- a script that was followed to its end
 pub script_done : (limit : StateLimit) (history : History) (text : List ℕ) (a b f : Option (List ℕ)) → (script_of text).stopped ≡ None
     → Appends a b (text_of_lines (lines_by (run_engine limit) history (script_of text).commands))
-    → IsWritten (record { answers_before = a; answers_after = b; faults_before = f; faults_after = f })
+    → IsWritten (streams a b f f)
     (script_output limit history (script_of text)) Done
 script_done limit history text a b f e h =
-    let streams : Streams = record { answers_before = a; answers_after = b; faults_before = f; faults_after = f } in
+    let both : Streams = streams a b f f in
     let answers = rw (run_lines_are limit history (script_of text).commands) at h in
-    let written : IsWritten streams (ended_output (printed_lines limit history (script_of text).commands) None) Done =
+    let written : IsWritten both (ended_output (printed_lines limit history (script_of text).commands) None) Done =
     record { answers = answers; faults = appends_nothing f; ends = refl } in
-    let P : Written → Type 0 = λ output. IsWritten streams output Done in
+    let P : Written → Type 0 = λ output. IsWritten both output Done in
     subst P (sym (output_is limit history (script_of text) None e)) written

@@ -1,10 +1,10 @@
 -- The lines that answer opens and judged links, without their line feeds.
 use Rattle.std.specs.Prelude.{ℕ, List, ◌++◌, codes, decimal}
-use Rattle.mediation.specs.Linking as linking
-use Rattle.mediation.specs.Linking.{LinkAnswered}
-use Rattle.mediation.specs.Opening.{Answered, judged, failed, no_profile}
+use Rattle.mediation.specs.Links as linking
+use Rattle.mediation.specs.Links.{LinkAnswered}
+use Rattle.mediation.specs.Opens.{Answered, judged, failed, no_profile}
 use Rattle.names.specs.Errors.{errno_text}
-use Rattle.rule_judge.specs.Linking.{link_verdict_text}
+use Rattle.rule_judge.specs.Links.{link_verdict_text}
 use Rattle.names.specs.VerdictText.{verdict_text}
 
 -- the end of a line: the node, and both versions

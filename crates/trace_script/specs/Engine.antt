@@ -1,8 +1,9 @@
 -- What engines of scripts have in common: the state of reading, lines that are read and written, and why a script isn't followed to
 -- its end.
+use Rattle.names.specs.Limits.{most_changes}
 use Rattle.mediation.specs.History.{History}
 use Rattle.names.specs.Errors.{no_memory_text}
-use Rattle.std.specs.Prelude.{◌≡◌, ◌≢◌, ℕ, ◌<◌, ◌≤◌, List, [], ◌∷◌, ◌++◌, ◌^◌, ◌-◌, length, All, codes, decimal, Option, Some, None}
+use Rattle.std.specs.Prelude.{◌≡◌, ◌≢◌, ℕ, ◌<◌, ◌≤◌, List, [], ◌∷◌, ◌++◌, length, All, codes, decimal, Option, Some, None}
 use Rattle.std.specs.Prelude.{Result, Ok, Err, Vec, IfSome}
 use Rattle.std.specs.Io.KnownBytes.{Appends, Consumes}
 use Rattle.std.specs.IoError.{error_kind}
@@ -15,8 +16,8 @@ use Rattle.trace_report.specs.Output.{line}
 use Rattle.trace_report.specs.Streams.{AppendsFront}
 use Rattle.trace_script.specs.declared.section.Section.{Section as SectionHere}
 use Rattle.trace_script.specs.declared.section.Section.TheVariants.{Outside, Within}
-use Rattle.trace_script.specs.declared.reading.LineRead.{LineRead}
-use Rattle.trace_script.specs.declared.reading.LineRead.TheVariants.{Whole, Last, End}
+use Rattle.trace_script.specs.declared.reader.LineRead.{LineRead}
+use Rattle.trace_script.specs.declared.reader.LineRead.TheVariants.{Whole, Last, End}
 use Rattle.trace_script.specs.declared.stop.Stop.{Stop}
 use Rattle.trace_script.specs.declared.stop.Stop.TheVariants.{NoCommand, Input, TooLong, Memory, Output}
 use Rattle.trace_script.specs.RunOutput.{Printed}
@@ -63,7 +64,7 @@ IsLineRead before after line (Err _) = ⊥
 
 -- the most lines that are read of a script
 abbrev pub most_lines : ℕ
-most_lines = 2 ^ 60 - 1
+most_lines = most_changes
 
 -- what was taken from the reader, where that is known, has as many lines as are read of a script
 abbrev pub IsTooLong : Option (List ℕ) → Option (List ℕ) → Type 0

@@ -3,6 +3,6 @@ pub mod LineValues
 pub mod Engine
 pub mod AnswerText
 pub mod RunOutput
-pub mod Following
+pub mod FollowedScripts
 pub mod Rows
 pub mod inner

@@ -16,7 +16,7 @@ use Rattle.directory_tree.specs.Plain.{outcome}
 use Rattle.directory_tree.specs.Apply.{and_then}
 use Rattle.rule_reader.specs.declared.fault.ReadFault.{ReadFault}
 use Rattle.rule_profile.specs.Profile.{ProfileValue}
-use Rattle.rule_reader.specs.Reading.{outcome_of}
+use Rattle.rule_reader.specs.ReadText.{outcome_of}
 use Rattle.trace_report.specs.declared.status.Status.{Status}
 use Rattle.trace_report.specs.declared.status.Status.TheVariants.{Done, Unmet, BadArguments, Refused, InputFailed, OutputFailed}
 use Rattle.trace_report.specs.declared.status.Status.TheVariants.{FaultsFailed, NoMemory}
@@ -27,8 +27,8 @@ use Rattle.trace_script.specs.Script.{alter, judge_open, judge_link, script_of}
 use Rattle.mediation.specs.History.{History, new_history, with_deed, with_change, after_link, tree_version, policy_version, open_answer}
 use Rattle.mediation.specs.History.{link_answer}
 use Rattle.mediation.specs.Deeds.{published_rules, removed}
-use Rattle.mediation.specs.Opening.{path_of}
-use Rattle.mediation.specs.Linking.{LinkAnswered}
+use Rattle.mediation.specs.Opens.{path_of}
+use Rattle.mediation.specs.Links.{LinkAnswered}
 use Rattle.trace_script.specs.AnswerText.{answered_text, link_answered_text}
 
 -- a line that is printed, and what was done then

@@ -2,8 +2,8 @@
 ghost use Rattle.std.specs.Prelude.{◌+◌, ◌<◌, ◌≤◌, ◌^◌, OnOk};
 ghost use Rattle.glob_automaton.specs.Automata.{StateLimit};
 ghost use Rattle.trace_script.specs.Engine.{IsComposed, IsPut};
-ghost use Rattle.trace_script.specs.Following.{IsDone};
-ghost use Rattle.trace_script.specs.inner.Following.{one_line_step};
+ghost use Rattle.trace_script.specs.FollowedScripts.{IsPrinted, IsStep};
+ghost use Rattle.trace_script.specs.inner.FollowedScripts.{one_line_step};
 ghost use Rattle.trace_script.specs.LineValues.{command_value};
 ghost use Rattle.mediation.specs.History.{MayChangePolicy, policy_version};
 ghost use Rattle.trace_script.specs.RunOutput.{printed};
@@ -25,7 +25,8 @@ pub(crate) fn answer_command<B: Bench, A: Write>(
     answers: &mut A,
 ) -> Result<(), Stop>
     requires { MayChangePolicy (B.history bench.old).deeds }
-    ensures line { (limit : StateLimit) → IsDone (one_line_step (printed limit (B.history bench.old) (command_value command.entry)))
+    ensures line { (limit : StateLimit) →
+        IsPrinted (IsStep (one_line_step (printed limit (B.history bench.old) (command_value command.entry))))
         (B.history bench.new)
         (A.contents answers.old) (A.contents answers.new) result }
     ensures few { OnOk result (policy_version (B.history bench.new) ≤ policy_version (B.history bench.old) + 1) }
@@ -61,7 +62,8 @@ pub(crate) fn answer_policy<B: Bench, A: Write>(
     answers: &mut A,
 ) -> Result<(), Stop>
     requires { MayChangePolicy (B.history bench.old).deeds }
-    ensures line { (limit : StateLimit) → IsDone (one_line_step (printed limit (B.history bench.old) (publish text.now)))
+    ensures line { (limit : StateLimit) →
+        IsPrinted (IsStep (one_line_step (printed limit (B.history bench.old) (publish text.now))))
         (B.history bench.new)
         (A.contents answers.old) (A.contents answers.new) result }
     ensures few { OnOk result (policy_version (B.history bench.new) ≤ policy_version (B.history bench.old) + 1) }

@@ -3,15 +3,15 @@ use Rattle.std.proofs.Common.{◌≡◌, ℕ, ◌<◌, ◌≤◌, List, [], ◌�
 use Rattle.std.proofs.Common.{inr, append_assoc, append-nil, arith}
 use Rattle.std.proofs.lemmas.Bool.Decides.{nat_tests}
 use Rattle.justification.specs.declared.answer.Answer.{Answer}
-use Rattle.event_core.specs.Machine.{Call, Event, Machine}
-use Rattle.event_core.specs.Machine.Event.{begin, read_policy, read_count, read_cell, check_count, answer}
-use Rattle.event_core.specs.Machine.Stage.{resting, begun}
-use Rattle.event_core.specs.Takes.{Takes}
-use Rattle.event_core.specs.Runs.{Runs}
-use Rattle.event_core.specs.Lawful.{IsLawful, HasTurn, cell_reads}
+use Rattle.event_machine.specs.Machine.{Call, Event, Machine}
+use Rattle.event_machine.specs.Machine.Event.{begin, read_policy, read_count, read_cell, check_count, answer}
+use Rattle.event_machine.specs.Machine.Stage.{resting, begun}
+use Rattle.event_machine.specs.Takes.{Takes}
+use Rattle.event_machine.specs.Runs.{Runs}
+use Rattle.event_machine.specs.Lawful.{IsLawful, HasTurn, cell_reads}
 use Rattle.trace_report.specs.Output.{line}
 use Rattle.trace_steps.specs.StepLines.{Lines, Finishes, Goes, OpensWhole, TakesOne, TakesUpTo, fresh, none_taken, not_now, told_text}
-use Rattle.trace_steps.specs.inner.Doing.{HasCome, IsAnswered, IsLedOn, IsTurnTaken}
+use Rattle.trace_steps.specs.inner.Actions.{HasCome, IsAnswered, IsLedOn, IsTurnTaken}
 use Rattle.trace_steps.proofs.Cells.{reads_are}
 use Rattle.trace_steps.proofs.Stages.{cells_read_on, come_start, count_checked_on, count_read_on, is_told, policy_read_on, stage_of}
 use Rattle.trace_steps.proofs.Stages.{stage_moved}

@@ -6,13 +6,13 @@ use Rattle.justification.specs.declared.answer.Answer.{Answer}
 use Rattle.row_rule.specs.declared.cell.Cell.{Cell}
 use Rattle.row_rule.specs.declared.view.Pending.{Pending}
 use Rattle.row_rule.specs.Steps.{one_fewer, setting, closing}
-use Rattle.event_core.specs.Machine.{Event, Machine, with_keeper}
-use Rattle.event_core.specs.Machine.Event.{read_cell, open_change, set_cell, close_change}
-use Rattle.event_core.specs.Takes.{Takes}
-use Rattle.event_core.specs.Runs.{Runs}
-use Rattle.event_core.specs.Lawful.{IsLawful, IsTested, cell_reads}
-use Rattle.event_core.proofs.Runs.{run_snoc}
-use Rattle.trace_steps.specs.inner.Doing.{AreSet}
+use Rattle.event_machine.specs.Machine.{Event, Machine, with_keeper}
+use Rattle.event_machine.specs.Machine.Event.{read_cell, open_change, set_cell, close_change}
+use Rattle.event_machine.specs.Takes.{Takes}
+use Rattle.event_machine.specs.Runs.{Runs}
+use Rattle.event_machine.specs.Lawful.{IsLawful, IsTested, cell_reads}
+use Rattle.event_machine.proofs.Runs.{run_snoc}
+use Rattle.trace_steps.specs.inner.Actions.{AreSet}
 
 -- ---- one event after the other
 

@@ -5,15 +5,15 @@ use Rattle.directory_tree.specs.declared.change.Change.{Change}
 use Rattle.names.specs.declared.errors.Errno.{Errno}
 use Rattle.names.specs.Errors.{errno_text}
 use Rattle.justification.specs.declared.answer.Answer.{Answer}
-use Rattle.event_core.specs.Machine.{Machine}
-use Rattle.event_core.specs.Machine.Event.{open_change, set_cell, close_change}
-use Rattle.event_core.specs.Takes.{Takes}
-use Rattle.event_core.specs.Lawful.{IsLawful, IsTested}
+use Rattle.event_machine.specs.Machine.{Machine}
+use Rattle.event_machine.specs.Machine.Event.{open_change, set_cell, close_change}
+use Rattle.event_machine.specs.Takes.{Takes}
+use Rattle.event_machine.specs.Lawful.{IsLawful, IsTested}
 use Rattle.row_rule.specs.declared.view.Pending.{Pending}
 use Rattle.trace_script.specs.RunOutput.{change_of}
 use Rattle.trace_script.specs.Script.{ChangeWords}
 use Rattle.trace_steps.specs.StepLines.{Lines, Closes, ClosesOpen, Tries, TriesNow, not_now}
-use Rattle.trace_steps.specs.inner.Doing.{AreSet, IsTriedOut}
+use Rattle.trace_steps.specs.inner.Actions.{AreSet, IsTriedOut}
 use Rattle.trace_steps.proofs.Cells.{closed_after, may_close, may_open, still_open}
 
 pub none_open : (pending : Option Pending) → is_some pending ≡ false → pending ≡ None

@@ -3,10 +3,8 @@ pub mod Stages
 pub mod Unread
 pub mod Cells
 pub mod Commands
-pub mod StepRuns
 pub mod StepEndings
 pub mod NumberSteps
-pub mod LineEnds
 pub mod CallEnds
 pub mod ChangeEnds
 pub mod PublicationEnds

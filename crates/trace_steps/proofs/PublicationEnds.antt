@@ -6,18 +6,18 @@ use Rattle.glob_automaton.specs.Sets.{AreMoreThan}
 use Rattle.justification.specs.declared.answer.Answer.{Answer}
 use Rattle.matcher.specs.declared.fault.MakeFault.{MakeFault}
 use Rattle.matcher.specs.declared.fault.MakeFault.TheVariants.{NoMemory, TooManyStates}
-use Rattle.matcher.specs.Making.{IsMakeFault}
+use Rattle.matcher.specs.MakeFaults.{IsMakeFault}
 use Rattle.mediation.specs.Deeds.{Deed, published_rules}
 use Rattle.rule_reader.specs.declared.fault.ReadFault.{ReadFault}
 use Rattle.rule_reader.specs.declared.fault.ReadFault.TheVariants as reading
 use Rattle.rule_profile.specs.Profile.{ProfileValue}
-use Rattle.event_core.specs.Machine.{Machine}
-use Rattle.event_core.specs.Machine.Event.{publish}
-use Rattle.event_core.specs.Takes.{Takes}
-use Rattle.event_core.specs.Lawful.{IsLawful}
+use Rattle.event_machine.specs.Machine.{Machine}
+use Rattle.event_machine.specs.Machine.Event.{publish}
+use Rattle.event_machine.specs.Takes.{Takes}
+use Rattle.event_machine.specs.Lawful.{IsLawful}
 use Rattle.trace_report.specs.Output.{refusal, compile_refusal}
 use Rattle.trace_script.specs.declared.stop.Stop.{Stop}
-use Rattle.trace_steps.specs.inner.Doing.{HasLine}
+use Rattle.trace_steps.specs.inner.Actions.{HasLine}
 use Rattle.trace_steps.specs.StepLines.{Lines, Publishes, PublishesText, OnlyPrints, not_now}
 
 pub published_so : (old new : Machine) (deed : Deed) (start : List ℕ) (told : Option Answer) (version : ℕ) →

@@ -8,17 +8,17 @@ use Rattle.row_rule.specs.declared.view.WalkerView.{WalkerView}
 use Rattle.mediation.specs.Deeds.{policy_after}
 use Rattle.row_rule.specs.Row.{count_of}
 use Rattle.row_rule.specs.Steps.{newcomer, beginning, reading, ending}
-use Rattle.event_core.specs.Machine.{Call, Event, Policed, Stage, Machine, moved_on}
-use Rattle.event_core.specs.Machine.Event.{begin, read_policy, read_count, read_cell, check_count, answer, open_change, set_cell}
-use Rattle.event_core.specs.Machine.Event.{close_change, publish}
-use Rattle.event_core.specs.Machine.Stage.{resting, begun, unpublished, policed, walking, checked}
-use Rattle.event_core.specs.Walking.{MayAnswer}
-use Rattle.event_core.specs.Takes.{Takes, after_policy}
-use Rattle.event_core.specs.Runs.{Runs, told_by}
-use Rattle.event_core.specs.Lawful.{HasTurn, cell_reads}
-use Rattle.event_core.proofs.Runs.{run_snoc, runs_on}
+use Rattle.event_machine.specs.Machine.{Call, Event, Policed, Stage, Machine, moved_on}
+use Rattle.event_machine.specs.Machine.Event.{begin, read_policy, read_count, read_cell, check_count, answer, open_change, set_cell}
+use Rattle.event_machine.specs.Machine.Event.{close_change, publish}
+use Rattle.event_machine.specs.Machine.Stage.{resting, begun, unpublished, policed, walking, checked}
+use Rattle.event_machine.specs.WalkSteps.{MayAnswer}
+use Rattle.event_machine.specs.Takes.{Takes, after_policy}
+use Rattle.event_machine.specs.Runs.{Runs, told_by}
+use Rattle.event_machine.specs.Lawful.{HasTurn, cell_reads}
+use Rattle.event_machine.proofs.Runs.{run_snoc, runs_on}
 use Rattle.trace_steps.specs.StepLines.{LeadsOn}
-use Rattle.trace_steps.specs.inner.Doing.{IsLedOn, HasCome, IsTurnTaken, IsAnswered, rank}
+use Rattle.trace_steps.specs.inner.Actions.{IsLedOn, HasCome, IsTurnTaken, IsAnswered, rank}
 
 abbrev pub stage_of : ℕ → Machine → Stage
 stage_of s m = (m.sessions s).stage

@@ -10,14 +10,14 @@ use Rattle.row_rule.specs.declared.cell.Cell.{Cell}
 use Rattle.row_rule.specs.declared.view.WalkerView.{WalkerView}
 use Rattle.row_rule.specs.Steps.{reading}
 use Rattle.tree_row.specs.Rows.{row_length}
-use Rattle.event_core.specs.Machine.{Policed, Machine}
-use Rattle.event_core.specs.Machine.Event.{read_cell}
-use Rattle.event_core.specs.Machine.Stage.{walking}
-use Rattle.event_core.specs.Walking.{MayDo, MayRead}
-use Rattle.event_core.specs.Takes.{Takes}
-use Rattle.event_core.specs.Runs.{Runs}
-use Rattle.event_core.specs.Lawful.{cell_reads}
-use Rattle.trace_steps.specs.inner.Doing.{unread, unread_in, cells_unread}
+use Rattle.event_machine.specs.Machine.{Policed, Machine}
+use Rattle.event_machine.specs.Machine.Event.{read_cell}
+use Rattle.event_machine.specs.Machine.Stage.{walking}
+use Rattle.event_machine.specs.WalkSteps.{MayDo, MayRead}
+use Rattle.event_machine.specs.Takes.{Takes}
+use Rattle.event_machine.specs.Runs.{Runs}
+use Rattle.event_machine.specs.Lawful.{cell_reads}
+use Rattle.trace_steps.specs.inner.Actions.{unread, unread_in, cells_unread}
 use Rattle.trace_steps.proofs.Stages.{stage_of, stage_moved}
 
 abbrev is_read : ℕ → List Cell → Bool

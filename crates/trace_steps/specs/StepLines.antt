@@ -10,18 +10,18 @@ use Rattle.names.specs.declared.errors.Errno.{Errno}
 use Rattle.directory_tree.specs.declared.change.Change.{Change}
 use Rattle.rule_reader.specs.declared.fault.ReadFault.{ReadFault}
 use Rattle.rule_profile.specs.Profile.{ProfileValue}
-use Rattle.rule_reader.specs.Reading.{outcome_of}
+use Rattle.rule_reader.specs.ReadText.{outcome_of}
 use Rattle.mediation.specs.Deeds.{Deed, published_rules, removed}
-use Rattle.mediation.specs.Opening.{judged, failed, no_profile}
+use Rattle.mediation.specs.Opens.{judged, failed, no_profile}
 use Rattle.justification.specs.declared.answer.Answer.{Answer}
 use Rattle.justification.specs.declared.answer.Answer.TheVariants.{Judged, Failed, NoProfile, Busy, NoEntry}
-use Rattle.event_core.specs.Machine.{Call, Event, Machine}
-use Rattle.event_core.specs.Machine.Event.{begin, read_policy, read_count, read_cell, check_count, answer, open_change, set_cell}
-use Rattle.event_core.specs.Machine.Event.{close_change, publish}
-use Rattle.event_core.specs.Machine.Stage.{resting}
-use Rattle.event_core.specs.Takes.{Takes}
-use Rattle.event_core.specs.Runs.{Runs}
-use Rattle.event_core.specs.Lawful.{IsLawful, IsTested}
+use Rattle.event_machine.specs.Machine.{Call, Event, Machine}
+use Rattle.event_machine.specs.Machine.Event.{begin, read_policy, read_count, read_cell, check_count, answer, open_change, set_cell}
+use Rattle.event_machine.specs.Machine.Event.{close_change, publish}
+use Rattle.event_machine.specs.Machine.Stage.{resting}
+use Rattle.event_machine.specs.Takes.{Takes}
+use Rattle.event_machine.specs.Runs.{Runs}
+use Rattle.event_machine.specs.Lawful.{IsLawful, IsTested}
 use Rattle.trace_report.specs.Output.{refusal, compile_refusal}
 use Rattle.trace_script.specs.AnswerText.{answered_text}
 use Rattle.trace_script.specs.RunOutput.{change_of}

@@ -7,8 +7,8 @@ use Rattle.std.specs.List.{list_all}
 use Rattle.std.specs.Str.Parse.{digits_value}
 use Rattle.names.specs.declared.permissions.Perms.{Perms}
 use Rattle.names.specs.Permissions.{perms_of}
-use Rattle.event_core.specs.Machine.{Call, Event}
-use Rattle.event_core.specs.Machine.Event.{begin, read_policy, read_count, check_count}
+use Rattle.event_machine.specs.Machine.{Call, Event}
+use Rattle.event_machine.specs.Machine.Event.{begin, read_policy, read_count, check_count}
 use Rattle.trace_script.specs.Script.{ChangeWords, Command, publish, remove, alter, judge_open, judge_link, LineKind, LineOf, ignored}
 use Rattle.trace_script.specs.Script.{opens_policy, command, no_command, line_kind, Grammar, ScriptOf, outside, script_by, lines_of}
 use Rattle.trace_script.specs.Script.{words_of}

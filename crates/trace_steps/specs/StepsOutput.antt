@@ -4,7 +4,7 @@ use Rattle.names.specs.Errors.{no_memory_text}
 use Rattle.std.specs.Prelude.{ℕ, ◌+◌, ◌≤◌, List, take, length, Option, codes}
 use Rattle.std.specs.Io.KnownBytes.{Appends, Consumes}
 use Rattle.glob_automaton.specs.Automata.{StateLimit}
-use Rattle.event_core.specs.Machine.{Machine}
+use Rattle.event_machine.specs.Machine.{Machine}
 use Rattle.trace_report.specs.declared.status.Status.{Status}
 use Rattle.trace_report.specs.declared.status.Status.TheVariants.{Done, Unmet, BadArguments, Refused, InputFailed, OutputFailed}
 use Rattle.trace_report.specs.declared.status.Status.TheVariants.{FaultsFailed, NoMemory}

@@ -1,5 +1,5 @@
 -- Definitions that only private contracts and proofs use.
 pub mod StepValues
 pub mod Numbers
-pub mod Doing
-pub mod Following
+pub mod Actions
+pub mod FollowedSteps

@@ -1,14 +1,14 @@
 //! Calls of sessions.
 ghost use Rattle.std.specs.Prelude.{◌≡◌, ◌++◌, OnOk, IfErr};
-ghost use Rattle.event_core.specs.Coded.{event_of};
-ghost use Rattle.event_core.specs.Lawful.{HasTurn};
-ghost use Rattle.event_core.specs.Machine.Event.{read_cell};
+ghost use Rattle.event_machine.specs.Coded.{event_of};
+ghost use Rattle.event_machine.specs.Lawful.{HasTurn};
+ghost use Rattle.event_machine.specs.Machine.Event.{read_cell};
 ghost use Rattle.trace_script.specs.Engine.{IsText};
 ghost use Rattle.trace_steps.specs.StepLines.{TakesOne, TakesUpTo, Goes, OpensWhole, told_text, not_now, none_taken};
-ghost use Rattle.trace_steps.specs.inner.Doing.{HasLine, IsDone, IsLedOn, IsAnswered, IsTurnTaken};
+ghost use Rattle.trace_steps.specs.inner.Actions.{HasLine, IsDone, IsLedOn, IsAnswered, IsTurnTaken};
 ghost use Rattle.trace_script.specs.declared.stop.Stop.TheVariants.{Memory};
 
-use event_core::{Event, EventMachine, StepFault};
+use event_machine::{Event, EventMachine, StepFault};
 use justification::Answer;
 use names::Perms;
 use std::alloc::Global;

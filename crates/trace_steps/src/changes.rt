@@ -1,16 +1,16 @@
 //! Changes of the tree.
 ghost use Rattle.std.specs.Prelude.{◌≡◌, ◌<◌, ◌≤◌, [], IfOk, IfErr, OnOk, Ok, None, is_some, true, replicate};
-ghost use Rattle.event_core.specs.Lawful.{IsLawful};
-ghost use Rattle.event_core.specs.Machine.Event.{set_cell};
-ghost use Rattle.event_core.specs.Runs.{Runs};
+ghost use Rattle.event_machine.specs.Lawful.{IsLawful};
+ghost use Rattle.event_machine.specs.Machine.Event.{set_cell};
+ghost use Rattle.event_machine.specs.Runs.{Runs};
 ghost use Rattle.trace_script.specs.LineValues.{change_words};
 ghost use Rattle.trace_script.specs.declared.stop.Stop.TheVariants.{Memory};
 ghost use Rattle.trace_steps.specs.StepLines.{TriesNow, Tries, IsMade, IsOpened, ClosesOpen, Closes, TakesUpTo};
-ghost use Rattle.trace_steps.specs.inner.Doing.{HasLine, IsDone, IsTriedOut, AreSet};
+ghost use Rattle.trace_steps.specs.inner.Actions.{HasLine, IsDone, IsTriedOut, AreSet};
 
 use crate::calls::{none_taken_line, not_now_line};
 use directory_tree::Change;
-use event_core::{Event, EventMachine, StepFault};
+use event_machine::{Event, EventMachine, StepFault};
 use names::Errno;
 use std::alloc::Global;
 use trace_script::{ChangeWords, Stop, change_of, errno_line, version_line};

@@ -1,4 +1,4 @@
-//! What a line of a script of events says by itself. No memory is taken.
+//! What a line of a script of events says by itself. Nothing is allocated.
 ghost use Rattle.std.specs.Prelude.{◌≡◌, ◌∷◌};
 ghost use Rattle.names.specs.Permissions.{perms_of};
 ghost use Rattle.trace_script.specs.LineValues.{command_value, kind_value};
@@ -9,7 +9,7 @@ ghost use Rattle.trace_steps.specs.StepScript.{whole_kind};
 ghost use Rattle.trace_steps.specs.inner.StepValues.{step_kind_value};
 
 use crate::numbers::{number_of, session_of};
-use event_core::Event;
+use event_machine::Event;
 use names::Perms;
 use trace_script::{ChangeWords, Command, LineKind, Words, is_word, parse_line};
 

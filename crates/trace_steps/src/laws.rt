@@ -1,6 +1,6 @@
 //! Laws of how scripts of events end. The functions do nothing: each exists only for its contract.
 ghost use Rattle.std.specs.Prelude.{◌≡◌, ℕ, List, Option, Some, None};
-ghost use Rattle.event_core.specs.Machine.{Machine};
+ghost use Rattle.event_machine.specs.Machine.{Machine};
 ghost use Rattle.glob_automaton.specs.Automata.{StateLimit};
 ghost use Rattle.trace_report.specs.Streams.{Streams};
 ghost use Rattle.trace_report.specs.declared.status.Status.TheVariants.{Done, Unmet, BadArguments, Refused};

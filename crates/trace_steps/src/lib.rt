@@ -4,14 +4,14 @@
 //! The definitions to believe are those in `specs/`; those in `specs/inner/` are of private contracts and proofs.
 #![tactic(auto)]
 
+mod actions;
 mod calls;
 mod changes;
 mod command;
-mod doing;
 mod laws;
 mod lines;
 mod numbers;
-mod publishing;
+mod publication;
 mod steps;
 
 pub use laws::step_scripts_end_as_they_stop;

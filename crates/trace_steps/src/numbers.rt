@@ -1,4 +1,4 @@
-//! Sessions and numbers, as scripts write them. No memory is taken.
+//! Sessions and numbers, as scripts write them. Nothing is allocated.
 ghost use Rattle.std.specs.Prelude.{◌≡◌};
 ghost use Rattle.trace_steps.specs.StepScript.{session_of, number_of};
 ghost use Rattle.trace_steps.specs.inner.Numbers.{with_digit};

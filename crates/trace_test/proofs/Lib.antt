@@ -1,5 +1,5 @@
 pub mod WordReads
-pub mod Expecting
+pub mod Expectations
 pub mod Outcomes
 pub mod Woven
 pub mod Plain

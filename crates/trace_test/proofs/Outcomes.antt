@@ -13,18 +13,18 @@ use Rattle.trace_report.specs.declared.format.Format.{Format}
 use Rattle.trace_report.specs.declared.status.Status.{Status}
 use Rattle.trace_report.specs.declared.status.Status.TheVariants.{Done, Unmet, Refused}
 use Rattle.trace_report.specs.Output.{line}
-use Rattle.trace_report.specs.Streams.{AppendsFront, IsTold, IsWritten, Streams}
+use Rattle.trace_report.specs.Streams.{AppendsFront, IsTold, IsWritten, Streams, streams}
 use Rattle.trace_report.proofs.Endings.{appends_nothing}
 use Rattle.trace_script.specs.declared.stop.Stop.{Stop}
 use Rattle.trace_script.specs.declared.stop.Stop.TheVariants.{NoCommand, Input, TooLong, Memory, Output}
 use Rattle.trace_script.specs.Engine.{IsPut, stop_status, stop_text}
-use Rattle.trace_script.specs.Following.{IsFollowed, IsShort, lines_by, state_by}
 use Rattle.trace_script.specs.RunOutput.{printed, printed_lines, text_of_lines}
-use Rattle.trace_script.proofs.Following.{cut_at, lines_by-append, one_line, text_of_lines-append, wrote_more}
-use Rattle.trace_test.specs.TestOutput.{Expectation, TestEnds, all_lines, compared, count_text, expectations, failure_lines, failure_text}
+use Rattle.trace_script.proofs.Exact.{IsFollowedBy, IsShortBy, lines_by, lines_by-append, state_by}
+use Rattle.trace_script.proofs.FollowedScripts.{front_more, one_line, text_of_lines-append, wrote_more}
+use Rattle.trace_test.specs.TestOutput.{Expectation, TestEnds, compared, count_text, expectations, failure_lines, failure_text}
 use Rattle.trace_test.specs.TestOutput.{fails, holds, test_output, tested_output, tested_status}
 use Rattle.trace_test.specs.TestScript.{TestCommand, ask, expect, asked_of, test_script}
-use Rattle.trace_test.specs.inner.Testing.{IsShortTest, IsTested, Testing, first_testing, test_engine, with_answer, with_one}
+use Rattle.trace_test.specs.inner.Tests.{IsShortTest, IsTested, Testing, first_testing, test_engine, with_answer, with_one}
 
 count_first : (e : Expectation) (told : List Expectation) → count_by holds (e ∷ told) ≡ cond (holds e) 1 0 + count_by holds told
 count_first e told = sum_by-cons (λ e. cond (holds e) 1 0) e told
@@ -129,7 +129,7 @@ module _ (format : Format) (limit : StateLimit) (history : History) (left after 
   abbrev told : List Expectation
   told = expectations limit history commands
 
-  short_test : IsShort (test_engine limit) (first_testing format history) left after text a b
+  short_test : IsShortBy (test_engine limit) (first_testing format history) left after text a b
       → IsShortTest format limit history left after text a b
   short_test (count, read, appended) = (count, read, rw (test_lines_are limit format history (take count commands)) at appended)
 
@@ -146,7 +146,7 @@ module _ (format : Format) (limit : StateLimit) (history : History) (left after 
         appended,
       )
 
-  pub stopped_test : (stop : Stop) → IsFollowed (test_engine limit) {T = Unit {0}} (first_testing format history) left after text now a b
+  pub stopped_test : (stop : Stop) → IsFollowedBy (test_engine limit) {T = Unit {0}} (first_testing format history) left after text now a b
       (Err stop) → IsTested format limit history left after text a b (Err stop)
   stopped_test (NoCommand number) (stopped, appended) = (stopped, rw (test_lines_are limit format history commands) at appended)
   stopped_test Input h = short_test h
@@ -154,7 +154,7 @@ module _ (format : Format) (limit : StateLimit) (history : History) (left after 
   stopped_test Memory h = short_test h
   stopped_test Output h = failures_first (test_script text).stopped (rw (test_lines_are limit format history commands) at h)
 
-  module _ (whole : IsFollowed (test_engine limit) {T = Unit {0}} (first_testing format history) left after text now a b (Ok tt)) where
+  module _ (whole : IsFollowedBy (test_engine limit) {T = Unit {0}} (first_testing format history) left after text now a b (Ok tt)) where
     -- there was no memory for the last line
     pub uncounted_test : (stop : Stop) → stop ≡ Memory → IsTested format limit history left after text a b (Err stop)
     uncounted_test stop e =
@@ -198,7 +198,7 @@ module _ (format : Format) (limit : StateLimit) (history : History) (left after 
         let lines = rw (test_lines_are limit format history commands) at whole.2 in
         let last : AppendsFront b c (text_of_lines (count ∷ [])) = rw (← one_line count) front in
         let P : Option ℕ → Type 0 = λ stopped. AppendsFront a c (tested_output format told stopped).answers in
-        subst P (sym whole.0) (cut_at a b c (all_lines format told) (failure_lines format told) (count ∷ []) [] refl lines last)
+        subst P (sym whole.0) (front_more a b c (failure_lines format told) (count ∷ []) lines last)
 
     pub cut_test : (c : Option (List ℕ)) (bytes : List ℕ) (stop : Stop) → bytes ≡ line (count_text now.format now.held now.total) →
         IsPut {T = Unit {0}} b c bytes (Err stop) → IsTested format limit history left after text a c (Err stop)
@@ -215,7 +215,7 @@ module _ (format : Format) (limit : StateLimit) (history : History) (text : List
   expected = expectations limit history (test_script text).commands
 
   abbrev quiet : Option (List ℕ) → Streams
-  quiet f = record { answers_before = a; answers_after = b; faults_before = f; faults_after = f }
+  quiet f = streams a b f f
 
   pub done_test : (f : Option (List ℕ)) (status : Status) → IsTested format limit history left after text a b (Ok status) →
       TestEnds format limit (quiet f) left after history text status
@@ -233,8 +233,8 @@ module _ (format : Format) (limit : StateLimit) (history : History) (text : List
       by false e = written false e
 
   module _ (f t : Option (List ℕ)) where
-    abbrev streams : Streams
-    streams = record { answers_before = a; answers_after = b; faults_before = f; faults_after = t }
+    abbrev both : Streams
+    both = streams a b f t
 
     -- what was written is a front part of what is to be written
     first_stands : (count : ℕ) →
@@ -275,9 +275,9 @@ module _ (format : Format) (limit : StateLimit) (history : History) (text : List
     front_stands Output h = h
 
     told_so : (stop : Stop) → IsTested format limit history left after text a b (Err stop) → Appends f t (line (stop_text stop)) →
-        TestEnds format limit streams left after history text (stop_status stop)
+        TestEnds format limit both left after history text (stop_status stop)
     told_so (NoCommand number) (stopped, h) told =
-        let P : Option ℕ → Type 0 = λ stopped. IsWritten streams (tested_output format expected stopped) Refused in
+        let P : Option ℕ → Type 0 = λ stopped. IsWritten both (tested_output format expected stopped) Refused in
         subst P (sym stopped) (record { answers = h; faults = told; ends = refl })
     told_so Input (count, read, h) told = record { count = count; read = read; answers = h; faults = told }
     told_so TooLong (count, read, h) told = record { count = count; read = read; answers = h; faults = told }
@@ -286,8 +286,8 @@ module _ (format : Format) (limit : StateLimit) (history : History) (text : List
 
     pub told_test : (stop : Stop) (status : Status) → IsTested format limit history left after text a b (Err stop) →
         IsTold f t (stop_text stop) (stop_status stop) status
-        → TestEnds format limit streams left after history text status
-    told_test stop status h (inl e) = subst (λ status. TestEnds format limit streams left after history text status) (sym e)
+        → TestEnds format limit both left after history text status
+    told_test stop status h (inl e) = subst (λ status. TestEnds format limit both left after history text status) (sym e)
         (front_stands stop h)
-    told_test stop status h (inr (e, told)) = subst (λ status. TestEnds format limit streams left after history text status) (sym e)
+    told_test stop status h (inr (e, told)) = subst (λ status. TestEnds format limit both left after history text status) (sym e)
         (told_so stop h told)

@@ -5,7 +5,7 @@ use Rattle.std.specs.List.{before_first, position_or_len, prefix_len}
 use Rattle.std.proofs.lemmas.Bool.{ne_eqb}
 use Rattle.trace_script.specs.Script.{is_blank}
 use Rattle.trace_test.specs.TestScript.{Place, between, bare, quoted, closed, from_word, quote, quoted_words, with_word, words_from}
-use Rattle.trace_test.specs.inner.Testing.{is_parted}
+use Rattle.trace_test.specs.inner.Tests.{is_parted}
 
 abbrev Words : Type 0
 Words = Option (List (List ℕ))

@@ -1,4 +1,5 @@
 -- What `test` writes: the outcome of a script's expectations, by what `run` prints for its commands.
+use Rattle.names.specs.Ascii as ascii
 use Rattle.names.specs.Errors.{no_memory_text}
 use Rattle.std.specs.Prelude.{ℕ, ◌+◌, ◌≤◌, Bool, false, not, List, [], ◌∷◌, ◌++◌, map, filter, count_by, take, length, codes, decimal}
 use Rattle.std.specs.Prelude.{Option, Some, None, unwrap_or, bytes_eq, if◌then◌else◌}
@@ -54,7 +55,7 @@ holds e = is_answer e.expected e.got
 
 -- a control byte is shown as `?`
 abbrev pub shown_byte : ℕ → ℕ
-shown_byte b = if is_ascii_control b then 63 else b
+shown_byte b = if is_ascii_control b then ascii.question_mark else b
 
 abbrev pub shown : List ℕ → List ℕ
 shown text = map shown_byte text

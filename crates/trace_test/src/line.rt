@@ -2,7 +2,7 @@
 ghost use Rattle.std.specs.Prelude.{◌≡◌, IfOk};
 ghost use Rattle.trace_script.specs.LineValues.{kind_value};
 ghost use Rattle.trace_test.specs.TestScript.{ask_kind, expect_kind, test_kind, without_end};
-ghost use Rattle.trace_test.specs.inner.Testing.{test_kind_value};
+ghost use Rattle.trace_test.specs.inner.Tests.{test_kind_value};
 
 use crate::quotes::quoted_words;
 use std::alloc::{AllocError, Global};

@@ -2,13 +2,12 @@
 ghost use Rattle.std.specs.Prelude.{◌≡◌, ◌+◌, ◌<◌, ◌≤◌, ◌^◌, OnOk};
 ghost use Rattle.glob_automaton.specs.Automata.{StateLimit};
 ghost use Rattle.mediation.specs.History.{History, MayChangePolicy, policy_version};
-ghost use Rattle.trace_script.specs.Engine.{section_value};
-ghost use Rattle.trace_script.specs.Following.{IsDone, IsLineFollowed, followed};
+ghost use Rattle.trace_script.specs.FollowedScripts.{IsPrinted, IsStep};
 ghost use Rattle.trace_script.specs.LineValues.{command_value};
 ghost use Rattle.trace_script.specs.RunOutput.{printed};
-ghost use Rattle.trace_script.specs.Script.{outside, publish};
+ghost use Rattle.trace_script.specs.Script.{publish};
 ghost use Rattle.trace_test.specs.TestScript.{expect};
-ghost use Rattle.trace_test.specs.inner.Testing.{IsAsked, answered_step, test_engine, test_step, test_value, testing};
+ghost use Rattle.trace_test.specs.inner.Tests.{IsAsked, answered_step, test_step, test_value, testing};
 
 use crate::line::{TestCommand, parse_test_line};
 use crate::progress::Progress;
@@ -16,69 +15,58 @@ use mediation::Bench;
 use std::alloc::Global;
 use std::io::Write;
 use trace_script::{
-    Command, LineKind, Section, Stop, command_line, policy_line, print_line, with_line,
+    Command, LineFollower, LineKind, Section, Stop, command_line, policy_line, print_line,
 };
 
-/// Does what a line asks for, and returns the section after it.
-pub(crate) fn follow_line<B: Bench, A: Write>(
-    alloc: Global,
-    bench: &mut B,
-    progress: &mut Progress,
-    section: Section,
-    number: u64,
-    line: &[u8],
-    answers: &mut A,
-) -> Result<Section, Stop>
-    requires policy { MayChangePolicy (B.history bench.old).deeds }
-    requires room { progress.old.total < 2 ^ 60 }
-    ensures line { (limit : StateLimit) → IsLineFollowed
-        (followed (test_engine limit) (testing (B.history bench.old) progress.old) (section_value section) number line.now)
-        (testing (B.history bench.new) progress.new) (A.contents answers.old) (A.contents answers.new) result }
-    ensures few { OnOk result (policy_version (B.history bench.new) ≤ policy_version (B.history bench.old) + 1) }
-    ensures total { OnOk result (progress.new.total ≤ progress.old.total + 1) }
-{
-    match section {
-        Section::Outside => follow_outside(alloc, bench, progress, number, line, answers),
-        Section::Within { start, text } => {
-            if line == b".".as_slice() {
-                ask_policy(alloc, bench, progress, &text)?;
-                return Ok(Section::Outside);
+impl<B: Bench> LineFollower<B> for Progress {
+    ghost use Rattle.std.specs.Prelude.{◌+◌};
+    ghost use Rattle.mediation.specs.History.{policy_version};
+    ghost use Rattle.trace_script.specs.FollowedScripts.{exactly};
+    ghost use Rattle.trace_test.specs.TestScript.{TestCommand};
+    ghost use Rattle.trace_test.specs.inner.Tests.{Testing, test_engine, testing};
+
+    ghost Command = { TestCommand };
+
+    ghost State = { Testing };
+
+    ghost state = { λ progress bench. testing (B.history bench) progress };
+
+    ghost engine = { λ limit. exactly (test_engine limit) };
+
+    // A line publishes, or it expects something.
+    ghost counted = { λ progress bench. policy_version (B.history bench) + progress.total };
+
+    fn do_line<A: Write>(
+        &mut self,
+        alloc: Global,
+        bench: &mut B,
+        number: u64,
+        line: &[u8],
+        answers: &mut A,
+    ) -> Result<Section, Stop> {
+        let kind = parse_test_line(alloc, number, line)?;
+        match kind {
+            LineKind::Ignored => Ok(Section::Outside),
+            LineKind::OpensPolicy => Ok(Section::Within {
+                start: number,
+                text: Vec::new(alloc),
+            }),
+            LineKind::Command(command) => {
+                do_command(alloc, bench, self, command, answers)?;
+                Ok(Section::Outside)
             }
-            let text = with_line(text, line)?;
-            Ok(Section::Within { start, text })
+            LineKind::NoCommand => Err(Stop::NoCommand(number)),
         }
     }
-}
 
-/// Does what a line outside a policy asks for.
-fn follow_outside<B: Bench, A: Write>(
-    alloc: Global,
-    bench: &mut B,
-    progress: &mut Progress,
-    number: u64,
-    line: &[u8],
-    answers: &mut A,
-) -> Result<Section, Stop>
-    requires policy { MayChangePolicy (B.history bench.old).deeds }
-    requires room { progress.old.total < 2 ^ 60 }
-    ensures line { (limit : StateLimit) → IsLineFollowed
-        (followed (test_engine limit) (testing (B.history bench.old) progress.old) outside number line.now)
-        (testing (B.history bench.new) progress.new) (A.contents answers.old) (A.contents answers.new) result }
-    ensures few { OnOk result (policy_version (B.history bench.new) ≤ policy_version (B.history bench.old) + 1) }
-    ensures total { OnOk result (progress.new.total ≤ progress.old.total + 1) }
-{
-    let kind = parse_test_line(alloc, number, line)?;
-    match kind {
-        LineKind::Ignored => Ok(Section::Outside),
-        LineKind::OpensPolicy => Ok(Section::Within {
-            start: number,
-            text: Vec::new(alloc),
-        }),
-        LineKind::Command(command) => {
-            do_command(alloc, bench, progress, command, answers)?;
-            Ok(Section::Outside)
-        }
-        LineKind::NoCommand => Err(Stop::NoCommand(number)),
+    fn do_policy<A: Write>(
+        &mut self,
+        alloc: Global,
+        bench: &mut B,
+        text: &[u8],
+        _answers: &mut A,
+    ) -> Result<(), Stop> {
+        ask_policy(alloc, bench, self, text)
     }
 }
 
@@ -92,11 +80,11 @@ fn do_command<B: Bench, A: Write>(
 ) -> Result<(), Stop>
     requires policy { MayChangePolicy (B.history bench.old).deeds }
     requires room { progress.old.total < 2 ^ 60 }
-    ensures done { (limit : StateLimit) → IsDone
-        (test_step limit (testing (B.history bench.old) progress.old) (test_value command.entry))
+    ensures done { (limit : StateLimit) → IsPrinted
+        (IsStep (test_step limit (testing (B.history bench.old) progress.old) (test_value command.entry)))
         (testing (B.history bench.new) progress.new) (A.contents answers.old) (A.contents answers.new) result }
-    ensures few { OnOk result (policy_version (B.history bench.new) ≤ policy_version (B.history bench.old) + 1) }
-    ensures total { OnOk result (progress.new.total ≤ progress.old.total + 1) }
+    ensures few { OnOk result (policy_version (B.history bench.new) + progress.new.total
+        ≤ policy_version (B.history bench.old) + progress.old.total + 1) }
 {
     match command {
         TestCommand::Ask(command) => ask(alloc, bench, progress, command),
@@ -152,7 +140,7 @@ fn expect<A: Write>(
 ) -> Result<(), Stop>
     requires { progress.old.total < 2 ^ 60 }
     ensures done { (limit : StateLimit) (history : History) →
-        IsDone (test_step limit (testing history progress.old) (expect number expected.now))
+        IsPrinted (IsStep (test_step limit (testing history progress.old) (expect number expected.now)))
         (testing history progress.new) (A.contents answers.old) (A.contents answers.new) result }
     ensures total { OnOk result (progress.new.total ≡ progress.old.total + 1) }
 {

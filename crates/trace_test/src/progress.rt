@@ -28,7 +28,7 @@ impl Progress {
     ghost use Rattle.trace_script.specs.Engine.{IsText};
     ghost use Rattle.trace_script.specs.RunOutput.{Printed};
     ghost use Rattle.trace_test.specs.TestOutput.{count_text, failure_text, is_answer};
-    ghost use Rattle.trace_test.specs.inner.Testing.{first_testing, items_of, testing, with_answer, with_one};
+    ghost use Rattle.trace_test.specs.inner.Tests.{first_testing, items_of, testing, with_answer, with_one};
 
     /// The progress before the first line.
     pub(crate) fn new(format: Format) -> Progress

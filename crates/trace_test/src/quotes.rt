@@ -3,7 +3,7 @@ ghost use Rattle.std.specs.Prelude.{◌≡◌, ◌<◌, IfOk, IfSome, MatchOptio
 ghost use Rattle.std.specs.List.{prefix_len};
 ghost use Rattle.trace_script.specs.Script.{is_blank};
 ghost use Rattle.trace_test.specs.TestScript.{quoted, quoted_words, with_word, words_from};
-ghost use Rattle.trace_test.specs.inner.Testing.{is_parted};
+ghost use Rattle.trace_test.specs.inner.Tests.{is_parted};
 
 use std::alloc::{AllocError, Global};
 use trace_script::{is_blank, skip_blanks, split_at_blank};

@@ -1,18 +1,18 @@
--- What the words of an index tell of the slots that they name.
+-- What the words of an index say of the slots that they name.
 use Rattle.std.proofs.Common.{◌≡◌, ◌≢◌, ℕ, ◌+◌, ◌<◌, ◌≤◌, List, Some, None, sym, ap, ◌∙◌, subst, arith}
 use Rattle.std.specs.Prelude.{slice_index}
 use mathlib.Core.Logic.{inl, inr, dite}
 use native.Mathlib.Decide.{ℕ_discrete}
 use Rattle.path_lookup.specs.World.{World}
 use Rattle.row_index.specs.Places.{around, index_length}
-use Rattle.row_index.specs.Hashing.{home}
+use Rattle.row_index.specs.Hashes.{home}
 use Rattle.row_index.specs.Index.{Ends}
 use Rattle.row_index.specs.Edits.{index_at}
-use Rattle.row_index.proofs.Keeping.{missed}
+use Rattle.row_index.proofs.Upkeep.{missed}
 use Rattle.tree_row.specs.Slots.{slot_at, IsUsed, IsChildSlot}
 use Rattle.tree_row.specs.Rows.{index_base, home_of}
 use Rattle.tree_row.specs.Worlds.{EncodesWorld, Fewer, Reads}
-use Rattle.tree_row.specs.Finding.{InEncoding, EncodesNone, TellsNamed, TellsFound}
+use Rattle.tree_row.specs.Search.{InEncoding, EncodesNone, TellsNamed, TellsFound}
 
 module _ (capacity : ℕ) (row : List ℕ) (w : World) (enc : EncodesWorld capacity row w) (d : ℕ) (c : List ℕ) where
   abbrev size : ℕ

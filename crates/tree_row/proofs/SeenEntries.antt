@@ -13,14 +13,14 @@ use Rattle.directory_tree.specs.Walk.Spot.{Held}
 use Rattle.directory_tree.specs.Spots.{node_at}
 use Rattle.directory_tree.proofs.Basics.{none_is_some, true_is_false}
 use Rattle.directory_tree.proofs.Found.{empty_none}
-use Rattle.directory_tree.proofs.Placing.{none_empty}
+use Rattle.directory_tree.proofs.Placement.{none_empty}
 use Rattle.path_lookup.specs.World.{World}
 use Rattle.tree_row.specs.Slots.{slot_at}
 use Rattle.tree_row.specs.Worlds.{spot_at, EncodesWorld, SeesBy, Knows, Fewer}
 use Rattle.tree_row.specs.Questions.{IsEntryOf, TellsEntryOf, TellsChildless, TellsFree}
 use Rattle.tree_row.proofs.Slots.{node_of, found_there}
 use Rattle.tree_row.proofs.SeenSlots.{seen_no_child}
-use Rattle.tree_row.proofs.Counting.{room_free, room_full, room_most}
+use Rattle.tree_row.proofs.Counts.{room_free, room_full, room_most}
 
 not_empty : (es : List Entry) (d : ℕ) (c : List ℕ) (e : Entry) → find es d c ≡ Some e → is_empty es d ≡ false
 not_empty es d c e h = elim (is_empty es d) as (λ (b : Bool). is_empty es d ≡ b → is_empty es d ≡ false) [

@@ -11,7 +11,7 @@ use Rattle.directory_tree.specs.Components.{is_filled}
 use Rattle.directory_tree.proofs.Basics.{true_is_false}
 use Rattle.path_lookup.specs.World.{World}
 use Rattle.tree_row.specs.Slots.{slot_at, text_at, kind_from, entry_at, IsUsed, IsChildSlot, IsDirectorySlot}
-use Rattle.tree_row.specs.Finding.{InEncoding, TellsFound, EncodesNone}
+use Rattle.tree_row.specs.Search.{InEncoding, TellsFound, EncodesNone}
 use Rattle.tree_row.specs.Worlds.{spot_at, EncodesWorld, SeesBy, Knows, Fewer, Reads}
 use Rattle.tree_row.proofs.Bytes.{length-text}
 use Rattle.tree_row.proofs.Slots as slots

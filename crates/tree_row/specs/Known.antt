@@ -29,7 +29,7 @@ IsUnknown capacity known place = (place < row_length capacity) × (known_at know
 abbrev pub InEach : ℕ → (List ℕ → Type 0) → (List ℕ → Tree → Type 0) → Type 0
 InEach capacity may P = (row : List ℕ) (t : Tree) → may row → WellFormed t → Encodes capacity row t → P row t
 
--- why a walk over the words that may be read has no end: they decide that it is refused; a word is wanted; no row that encodes a
+-- why a walk over the words that may be read has no end: they decide that it is refused; a word is needed; no row that encodes a
 -- tree agrees with them; or memory was refused
 abbrev pub Stops : {X : Type 0} → ℕ → (List ℕ → Type 0) → (ℕ → Type 0) → Type 0 → (Tree → Result X Errno) → Stop → Type 0
 Stops capacity may wants refused answer (stop.Refused errno) = InEach capacity may (λ row t. answer t ≡ Err errno)
@@ -37,6 +37,6 @@ Stops capacity may wants refused answer (stop.Wants place) = wants place
 Stops capacity may wants refused answer stop.Torn = InEach capacity may (λ row t. ⊥)
 Stops capacity may wants refused answer stop.NoMemory = refused
 
--- no memory is taken over known words
+-- nothing is allocated over known words
 abbrev pub StopsKnown : {X : Type 0} → ℕ → List (ℕ × ℕ) → (Tree → Result X Errno) → Stop → Type 0
 StopsKnown capacity known = Stops capacity (Agrees known) (IsUnknown capacity known) ⊥

@@ -3,7 +3,7 @@ pub mod Rows
 pub mod Worlds
 pub mod Questions
 pub mod OpeningRow
-pub mod Finding
+pub mod Search
 pub mod Known
-pub mod Reading
+pub mod ReadWords
 pub mod inner

@@ -2,7 +2,7 @@
 -- entry means nothing, and free slots and bytes past a length may hold anything.
 use Rattle.std.specs.Prelude.{◌≡◌, ℕ, ◌+◌, List, length}
 use Rattle.row_index.specs.Places.{index_length}
-use Rattle.row_index.specs.Hashing.{home}
+use Rattle.row_index.specs.Hashes.{home}
 use Rattle.row_index.specs.Index.{Indexes}
 use Rattle.row_index.specs.Edits.{index_at}
 use Rattle.directory_tree.specs.Tree.{Tree, Entry, Has}

@@ -9,11 +9,11 @@
 --     36 to 163  the link's text, likewise
 use Rattle.std.specs.Prelude.{◌≡◌, ◌≢◌, ℕ, zero, suc, ◌+◌, ◌*◌, ◌/◌, ◌%◌, ◌<◌, ◌≤◌, List, [], ◌∷◌, ◌++◌, length, slice_index}
 use Rattle.std.specs.Int.{byte_at, from_le_bytes, w64}
-use Rattle.names.specs.declared.paths.TheConstants.{LONGEST_COMPONENT}
+use Rattle.names.specs.declared.limits.TheConstants.{LONGEST_COMPONENT}
 use Rattle.directory_tree.specs.declared.node.NodeKind.{NodeKind}
 use Rattle.directory_tree.specs.declared.node.NodeKind.TheVariants.{Directory, File, Link}
 use Rattle.directory_tree.specs.Tree.{Entry}
-use Rattle.directory_tree.specs.Apply.{entry, max_text}
+use Rattle.directory_tree.specs.Apply.{entry, longest_link_text}
 
 -- the number of cells of `n` slots
 abbrev pub slots_length : ℕ → ℕ
@@ -87,7 +87,7 @@ pub record IsChildSlot (n : ℕ) (f : ℕ → Slot) (parent : ℕ) (component : 
 pub record IsInRange (own : Slot) : Type 0 where
   pub kind : own.kind ≤ 3
   pub component : length own.component ≤ LONGEST_COMPONENT
-  pub text : length own.text ≤ max_text
+  pub text : length own.text ≤ longest_link_text
   pub text_of_link : own.kind ≢ 3 → own.text ≡ []
 
 pub record IsRootSlot (n : ℕ) (own : Slot) : Type 0 where

@@ -1,5 +1,5 @@
 -- Definitions that only private contracts and proofs use.
-pub mod Standing
+pub mod KnownEntries
 pub mod Words
-pub mod Wanting
-pub mod Lacking
+pub mod WantedWords
+pub mod Lacks

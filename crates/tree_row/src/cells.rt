@@ -3,7 +3,7 @@ ghost use Rattle.std.specs.Prelude.{◌≡◌, ◌<◌, ◌≤◌, ◌+◌, ℕ,
 ghost use Rattle.tree_row.specs.Rows.{row_length};
 ghost use Rattle.tree_row.specs.Worlds.{Fewer, Reads};
 ghost use Rattle.tree_row.specs.Questions.{NoneFreeBefore, TellsChildless};
-ghost use Rattle.tree_row.specs.Finding.{IsIndexOf};
+ghost use Rattle.tree_row.specs.Search.{IsIndexOf};
 
 use crate::index::{RowIndex, index_of};
 

@@ -1,6 +1,6 @@
 //! Where the index of a row is.
 ghost use Rattle.std.specs.Prelude.{◌≤◌};
-ghost use Rattle.tree_row.specs.Finding.{IsIndexOf};
+ghost use Rattle.tree_row.specs.Search.{IsIndexOf};
 
 use crate::cells::MOST_ENTRIES;
 use crate::slot::SLOT_LENGTH;

@@ -7,7 +7,7 @@ ghost use Rattle.tree_row.specs.Slots.{slot_at, IsFree};
 ghost use Rattle.tree_row.specs.Rows.{Encodes};
 ghost use Rattle.tree_row.specs.OpeningRow.{opening_row};
 ghost use Rattle.tree_row.specs.Questions.{TellsEntryOf, TellsFree};
-ghost use Rattle.tree_row.specs.Finding.{TellsFound};
+ghost use Rattle.tree_row.specs.Search.{TellsFound};
 ghost use Rattle.tree_row.specs.Worlds.{EncodesWorld, Reads, SeesBy};
 
 use crate::cells::Cells;

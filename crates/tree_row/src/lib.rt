@@ -5,7 +5,6 @@
 #![tactic(auto)]
 
 mod cells;
-mod finding;
 mod index;
 mod known;
 mod known_row;
@@ -14,13 +13,13 @@ mod look;
 mod pack;
 mod part;
 mod question;
-mod reading;
+mod reader;
+mod search;
 mod slot;
 mod stop;
 mod text;
 
 pub use cells::{Cells, MOST_ENTRIES};
-pub use finding::find_child;
 pub use index::{RowIndex, index_of};
 pub use known::KnownWords;
 pub use known_row::KnownRow;
@@ -33,7 +32,8 @@ pub use pack::packed_word;
 pub use part::{name_known, name_place_known, walk_known};
 pub use path_lookup::{Reached, reach};
 pub use question::{free_slot, is_childless, is_entry_of};
-pub use reading::{Reading, name_and_read, name_place_and_read, walk_and_read};
+pub use reader::{Reading, name_and_read, name_place_and_read, walk_and_read};
+pub use search::find_child;
 pub use slot::{
     COMPONENT, DIRECTORY, FILE, FREE, KIND, LENGTHS, LINK, NODE, PARENT, SLOT_LENGTH, TEXT,
     TEXT_FACTOR, cell_place, slot_word,

@@ -2,8 +2,8 @@
 ghost use Rattle.std.specs.Prelude.{◌≡◌};
 
 use crate::cells::Cells;
-use crate::finding::find_child;
 use crate::question::{free_slot, is_childless};
+use crate::search::find_child;
 use crate::slot::{
     COMPONENT, DIRECTORY, FILE, KIND, LENGTHS, LINK, NODE, PARENT, TEXT, TEXT_FACTOR, cell_place,
     slot_word,
@@ -54,7 +54,7 @@ impl<C: Cells> RowLook<C> {
 
 impl<C: Cells> Look for RowLook<C> {
     ghost use Rattle.tree_row.specs.Worlds.{SeesBy, Knows};
-    ghost use Rattle.tree_row.specs.inner.Standing.{knows_stands};
+    ghost use Rattle.tree_row.specs.inner.KnownEntries.{knows_stands};
 
     type Entry = RowEntry;
 

@@ -7,7 +7,7 @@ ghost use Rattle.directory_tree.specs.Walk.{walk};
 ghost use Rattle.tree_row.specs.Slots.{slot_at};
 ghost use Rattle.tree_row.specs.Worlds.{spot_at};
 ghost use Rattle.tree_row.specs.Known.{Agrees, InEach, StopsKnown};
-ghost use Rattle.tree_row.specs.inner.Wanting.{IsHonest, stop_from};
+ghost use Rattle.tree_row.specs.inner.WantedWords.{IsHonest, stop_from};
 
 use crate::cells::Cells;
 use crate::known::KnownWords;
@@ -82,7 +82,7 @@ impl<'a> PartCells<'a> {
 }
 
 /// Where a path leads, as far as the words that are known decide it, or why they don't. Each known word is right, but the
-/// walk may ask for words in any order. No memory is taken.
+/// walk may ask for words in any order. Nothing is allocated.
 pub fn walk_known(
     known: &KnownWords,
     path: &Path<'_>,
@@ -101,7 +101,7 @@ pub fn walk_known(
 }
 
 /// Where a path leads, and what that is named, as far as the words that are known decide it, or why they don't. The name
-/// is written to the front of `room`, as `path_lookup::name_of` does. No memory is taken.
+/// is written to the front of `room`, as `path_lookup::name_of` does. Nothing is allocated.
 pub fn name_known(
     known: &KnownWords,
     path: &Path<'_>,
@@ -124,7 +124,7 @@ pub fn name_known(
 }
 
 /// The name of the place that a path names, as far as the words that are known decide it, or why they don't. It is written to
-/// the front of `room`, as `path_lookup::name_of_place` does, and its length is returned. No memory is taken.
+/// the front of `room`, as `path_lookup::name_of_place` does, and its length is returned. Nothing is allocated.
 pub fn name_place_known(
     known: &KnownWords,
     path: &Path<'_>,

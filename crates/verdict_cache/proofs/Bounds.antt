@@ -4,7 +4,7 @@ use Rattle.std.proofs.Common.{refl, sym, ap, ◌∙◌, arith}
 use Rattle.std.specs.Option.{option_map_or}
 use Rattle.std.specs.Map.{lookup_entry, remove_entry}
 use Rattle.verdict_cache.specs.Questions.{Asked, Kept, Verdicts, asks, with_first, with_kept}
-use Rattle.verdict_cache.proofs.Keeping.{by_answer, cond-true, cond-false, Entries}
+use Rattle.verdict_cache.proofs.KeptEntries.{by_answer, cond-true, cond-false, Entries}
 
 in_front : {X : Type 0} (n : ℕ) (xs : List X) → length (take n xs) ≤ n
 in_front zero xs = omega arith

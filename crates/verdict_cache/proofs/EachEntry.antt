@@ -2,7 +2,7 @@
 use Rattle.std.proofs.Common.{◌≡◌, ℕ, [], Some, sym, subst, inl, inr}
 use Rattle.lru.proofs.Splits.{Contains-nil}
 use Rattle.verdict_cache.specs.Questions.{Asked, Kept, Verdicts, verdicts, found_under, with_first, with_kept, OfEach}
-use Rattle.verdict_cache.proofs.Keeping.{Contains-first, Contains-kept, Contains-found}
+use Rattle.verdict_cache.proofs.KeptEntries.{Contains-first, Contains-kept, Contains-found}
 
 module _ (P : Asked × Kept → Type 0) where
   -- in an empty cache

@@ -1,3 +1,3 @@
 pub mod Bounds
 pub mod EachEntry
-pub mod Keeping
+pub mod KeptEntries

@@ -1,4 +1,4 @@
 pub mod Questions
-pub mod Asking
-pub mod Finding
+pub mod StructQuestions
+pub mod Looks
 pub mod inner

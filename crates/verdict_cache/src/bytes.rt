@@ -1,6 +1,6 @@
 //! Bytes with their hash.
 ghost use Rattle.std.specs.Prelude.{◌≡◌, [], OnOk, OnErr};
-ghost use Rattle.verdict_cache.specs.inner.Hashing.{hash_of};
+ghost use Rattle.verdict_cache.specs.inner.QuestionHashes.{hash_of};
 
 use names::NoMemory;
 use std::alloc::Global;
@@ -16,7 +16,7 @@ pub(crate) struct HashedBytes {
 
 impl Model for HashedBytes {
     ghost use Rattle.std.specs.Prelude.{◌≡◌, ℕ, List};
-    ghost use Rattle.verdict_cache.specs.inner.Hashing.{hash_of};
+    ghost use Rattle.verdict_cache.specs.inner.QuestionHashes.{hash_of};
 
     ghost Value = { List ℕ };
 

@@ -1,8 +1,8 @@
 //! The cache.
 ghost use Rattle.std.specs.Prelude.{◌≡◌, ◌≤◌, [], length, IfOk, OnErr, OnOk};
 ghost use Rattle.std.specs.NonZero.{non_zero_usize_get};
-ghost use Rattle.verdict_cache.specs.Asking.{asked_of};
-ghost use Rattle.verdict_cache.specs.Finding.{IsAnswer};
+ghost use Rattle.verdict_cache.specs.StructQuestions.{asked_of};
+ghost use Rattle.verdict_cache.specs.Looks.{IsAnswer};
 ghost use Rattle.verdict_cache.specs.Questions.{verdicts, with_first, with_kept};
 
 use crate::bytes::{hash_of, set_bytes};

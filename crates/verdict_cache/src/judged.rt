@@ -1,5 +1,5 @@
 //! What is kept under a question.
-ghost use Rattle.verdict_cache.specs.Finding.{IsShown};
+ghost use Rattle.verdict_cache.specs.Looks.{IsShown};
 
 use names::Verdict;
 use path_lookup::NAME_ROOM;
@@ -22,6 +22,7 @@ pub(crate) struct Judged {
 }
 
 impl Model for Judged {
+    ghost use Rattle.names.specs.Limits.{longest_path};
     ghost use Rattle.std.specs.Prelude.{◌≤◌, length};
     ghost use Rattle.verdict_cache.specs.Questions.{Kept};
 
@@ -29,7 +30,7 @@ impl Model for Judged {
 
     ghost view = { λ j. record { verdict = j.verdict; node = j.node; name = j.name.items } };
 
-    ghost invariant = { λ j. length j.name.items ≤ 4095 };
+    ghost invariant = { λ j. length j.name.items ≤ longest_path };
 }
 
 impl Judged {

@@ -1,8 +1,8 @@
 //! The keys of the cache: questions that own their bytes.
 ghost use Rattle.std.specs.Prelude.{◌≡◌, ◌+◌, ◌*◌, ◌^◌, OnOk};
-ghost use Rattle.verdict_cache.specs.Asking.{asked_of};
+ghost use Rattle.verdict_cache.specs.StructQuestions.{asked_of};
 ghost use Rattle.verdict_cache.specs.Questions.{asks};
-ghost use Rattle.verdict_cache.specs.inner.Hashing.{hash_of, writes};
+ghost use Rattle.verdict_cache.specs.inner.QuestionHashes.{hash_of, writes};
 ghost use Rattle.verdict_cache.specs.inner.SameQuestions.{asks_equiv, asks_per, same_writes};
 
 use crate::bytes::{HashedBytes, hash_of};

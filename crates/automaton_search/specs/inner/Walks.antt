@@ -1,11 +1,12 @@
 -- A walk over states of any kind, breadth first: which are visited, and by which names.
 use Rattle.std.specs.Prelude.{◌≡◌, ◌⊎◌, ℕ, ◌<◌, ◌≤◌, List, [], ◌∷◌, ◌++◌, length, Some, slice_get}
+use Rattle.names.specs.Ascii as ascii
 use Rattle.names.specs.Paths.{IsName}
 use Rattle.automaton_search.specs.declared.fault.SearchFault.{SearchFault}
 use Rattle.automaton_search.specs.declared.fault.SearchFault.TheVariants.{TooManyStates, NoMemory}
 use Rattle.automaton_search.specs.declared.states.States.{States}
-use Rattle.automaton_search.specs.declared.walking.Trail.{Trail}
-use Rattle.automaton_search.specs.declared.walking.Walk.{Walk}
+use Rattle.automaton_search.specs.declared.walk.Trail.{Trail}
+use Rattle.automaton_search.specs.declared.walk.Walk.{Walk}
 use Rattle.automaton_search.specs.Order.{IsLess, IsAtMost, place_of}
 use Rattle.automaton_search.specs.Visits.{AreDistinct, most_visits}
 use Rattle.automaton_search.specs.inner.Trails.{AreNames}
@@ -30,12 +31,12 @@ IsAt {K} states names j s name = (slice_get states j ≡ Some s) × (slice_get n
 abbrev pub IsMetBy : {K : Type 0} → List K → List (List ℕ) → K → List ℕ → Type 0
 IsMetBy {K} states names s name = (k : ℕ) × ((least : List ℕ) × IsAt states names k s least × IsAtMost least name)
 
--- The walk has come to place p of the bytes of visit i: all states that the visits before it lead to, and that it leads to by bytes
+-- The walk has reached place p of the bytes of visit i: all states that the visits before it lead to, and that it leads to by bytes
 -- of earlier places, are visited, each by a name that is no greater.
 pub record IsWalk {K : Type 0} (next : K → ℕ → K) (start : K) (states : List K) (trails : List Trail) (names : List (List ℕ))
     (i p : ℕ) : Type 0 where
   pub named : AreNames trails names
-  pub slash : (t : Trail) → slice_get trails 0 ≡ Some t → t.byte ≡ 47
+  pub slash : (t : Trail) → slice_get trails 0 ≡ Some t → t.byte ≡ ascii.slash
   pub each : length states ≡ length trails
   pub leads : (j : ℕ) (s : K) (name : List ℕ) → IsAt states names j s name → IsName name × (led next start name ≡ s)
   pub ascending : (j k : ℕ) (name other : List ℕ) → j < k → slice_get names j ≡ Some name → slice_get names k ≡ Some other →

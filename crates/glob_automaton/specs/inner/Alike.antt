@@ -5,7 +5,7 @@ use Rattle.glob_automaton.specs.declared.chart.ChartPlace.{ChartPlace}
 use Rattle.glob_automaton.specs.declared.chart.Label.{Label}
 use Rattle.glob_automaton.specs.declared.chart.Label.TheVariants as label
 use Rattle.glob_automaton.specs.inner.Chart.{takes_byte}
-use Rattle.glob_automaton.specs.inner.Drawing.{IsKnown}
+use Rattle.glob_automaton.specs.inner.Drawings.{IsKnown}
 use Rattle.glob_automaton.specs.inner.PlaceBits.{has_place}
 
 -- the least byte alike to a byte

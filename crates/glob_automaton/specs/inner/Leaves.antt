@@ -7,10 +7,10 @@ use Rattle.names.specs.declared.kind.RuleKind.TheVariants.{Allow}
 use Rattle.names.specs.declared.record.Record.{Record}
 use Rattle.names.specs.Hits.{no_hits, record_with}
 use Rattle.names.specs.Least.{hits_of}
-use Rattle.automata.specs.Automata.{Automaton, IsWhole, target}
+use Rattle.automaton_rows.specs.Automata.{Automaton, IsWhole, target}
 use Rattle.glob_automaton.specs.declared.leaf.Leaves.{Leaves}
 use Rattle.glob_automaton.specs.declared.leaf.PathAutomaton.{PathAutomaton}
-use Rattle.glob_automaton.specs.inner.Building.{IsBuilt}
+use Rattle.glob_automaton.specs.inner.ChartStates.{IsBuilt}
 
 -- the rule that allows reading what the rule's path matches
 abbrev pub reading : RuleValue → RuleValue

@@ -1,14 +1,14 @@
 -- The sets so far, each with its number, and the row of one of them.
 use Rattle.std.specs.Prelude.{◌≡◌, ◌≢◌, ◌⊎◌, ℕ, ◌<◌, ◌≤◌, List, [], ◌∷◌, ◌++◌, length, map, drop, slice_index_or, Contains}
 use Rattle.glob_automaton.specs.declared.chart.Chart.{Chart}
-use Rattle.glob_automaton.specs.declared.building.Sets.{Sets}
-use Rattle.automata.specs.declared.range.TargetRange.{TargetRange}
-use Rattle.automata.specs.Rows.{IsRowOf, rows_of}
-use Rattle.automata.specs.declared.fault.CompileFault.{CompileFault}
-use Rattle.automata.specs.declared.fault.CompileFault.TheVariants.{TooManyStates, NoMemory}
+use Rattle.glob_automaton.specs.declared.subsets.Sets.{Sets}
+use Rattle.automaton_rows.specs.declared.range.TargetRange.{TargetRange}
+use Rattle.automaton_rows.specs.Rows.{IsRowOf, rows_of}
+use Rattle.automaton_rows.specs.declared.fault.CompileFault.{CompileFault}
+use Rattle.automaton_rows.specs.declared.fault.CompileFault.TheVariants.{TooManyStates, NoMemory}
 use Rattle.names.specs.declared.record.Record.{Record}
-use Rattle.automata.specs.Automata.{Automaton, most_sets}
-use Rattle.glob_automaton.specs.inner.Building.{IsStartOf, IsStepOf, IsRecordOf, AreSets}
+use Rattle.automaton_rows.specs.Automata.{Automaton, most_sets}
+use Rattle.glob_automaton.specs.inner.ChartStates.{IsStartOf, IsStepOf, IsRecordOf, AreSets}
 
 -- the sets, in the order of their numbers
 abbrev pub lists_of : Sets → List (List ℕ)

@@ -5,9 +5,9 @@ use Rattle.justification.specs.declared.answer.Answer.{Answer}
 use Rattle.justification.specs.declared.answer.Answer.TheVariants.{Judged, Failed, NoProfile, Busy, NoEntry}
 use Rattle.justification.specs.Justified.{Justified}
 use Rattle.mediation.specs.Deeds.{policy_after}
-use Rattle.path_session.specs.Sitting.{Sitting, IsSameSession, HasSeenMore, HasReadPolicy, HasReadCounts, HasVersions, IsNameJudged}
-use Rattle.path_session.specs.Sitting.{IsByPublished, CountsRefusals}
-use Rattle.guarded_row.specs.Opening.{HasAsked, HasLooked}
+use Rattle.path_session.specs.Sessions.{Sitting, IsSameSession, HasSeenMore, HasReadPolicy, HasReadCounts, HasVersions, IsNameJudged}
+use Rattle.path_session.specs.Sessions.{IsByPublished, CountsRefusals}
+use Rattle.guarded_row.specs.Opens.{HasAsked, HasLooked}
 
 -- a try of a session, concurrently with the keeper
 pub record IsTryOfSession (before now : Sitting) (path : List ℕ) (ask : Perms) (answer : Answer) : Type 0 where

@@ -1,9 +1,9 @@
 -- Declarations, names and questions of a text, up to its first fault of a declaration or of a name.
 use Rattle.std.specs.Prelude.{◌≡◌, ℕ, ◌+◌, List, [], ◌∷◌, ◌++◌, map, reverse, Result, Ok, Err, Option, Some, None}
-use Rattle.flat_text.specs.declared.part.ItemKind.{ItemKind}
-use Rattle.flat_text.specs.declared.part.ItemKind.TheVariants as items
-use Rattle.flat_text.specs.Parts.{PartValue, ItemValue}
-use Rattle.flat_rules.specs.RuleWords.{content, first_bytes, is_path}
+use Rattle.apparmor_text.specs.declared.part.ItemKind.{ItemKind}
+use Rattle.apparmor_text.specs.declared.part.ItemKind.TheVariants as items
+use Rattle.apparmor_text.specs.Parts.{PartValue, ItemValue}
+use Rattle.apparmor_rules.specs.RuleWords.{content, first_bytes, is_path}
 use Rattle.import_scope.specs.declared.fault.ScopeFailure.{ScopeFailure}
 use Rattle.import_scope.specs.declared.fault.ScopeFailure.TheVariants as failures
 use Rattle.import_scope.specs.declared.outline.Asked as code

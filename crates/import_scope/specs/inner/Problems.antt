@@ -1,10 +1,10 @@
 -- The first question that has a fault.
 use Rattle.std.specs.Prelude.{◌≡◌, ◌⊎◌, ◌<◌, ◌≤◌, ◌+◌, ℕ, List, [], ◌∷◌, length, Ok, Err, Option, Some, None}
 use Rattle.std.specs.Prelude.{slice_get, Bool, true, false}
-use Rattle.import_scope.specs.declared.asking.Seen.{Seen}
-use Rattle.profile_variables.specs.PathTexts.{IsSubstituted, PathProblem}
-use Rattle.profile_variables.specs.Problems.{Problem}
-use Rattle.profile_variables.specs.Variables.{Variable}
+use Rattle.import_scope.specs.declared.asked_paths.Seen.{Seen}
+use Rattle.apparmor_variables.specs.PathTexts.{IsSubstituted, PathProblem}
+use Rattle.apparmor_variables.specs.Problems.{Problem}
+use Rattle.apparmor_variables.specs.Variables.{Variable}
 use Rattle.import_scope.specs.FirstFaults.{Question, Counted, most_together, CountBefore, variables_within, Answers}
 use Rattle.import_scope.specs.Scopes.{Head, Fault, in_path, too_much}
 use Rattle.import_scope.specs.inner.Outlines.{AskedValue}

@@ -1,11 +1,11 @@
 -- What follows from what the words of a walk decide.
 use Rattle.std.specs.Prelude.{ℕ, Result, Ok, Err}
-use Rattle.event_core.specs.declared.event.StepFault.{StepFault}
-use Rattle.event_core.specs.declared.event.StepFault.TheVariants.{NoMemory}
-use Rattle.walk_words.specs.declared.outcome.Outcome.{Outcome}
-use Rattle.walk_words.specs.declared.outcome.Outcome.TheVariants as outcome
-use Rattle.walk_words.specs.declared.outcome.Lack.{Lack}
-use Rattle.walk_words.specs.declared.outcome.Lack.TheVariants as lack
+use Rattle.event_machine.specs.declared.event.StepFault.{StepFault}
+use Rattle.event_machine.specs.declared.event.StepFault.TheVariants.{NoMemory}
+use Rattle.open_session.specs.declared.outcome.Outcome.{Outcome}
+use Rattle.open_session.specs.declared.outcome.Outcome.TheVariants as outcome
+use Rattle.open_session.specs.declared.outcome.Lack.{Lack}
+use Rattle.open_session.specs.declared.outcome.Lack.TheVariants as lack
 use Rattle.open_session.specs.declared.walk.Next.{Next}
 use Rattle.open_session.specs.declared.walk.Next.TheVariants as next
 

@@ -12,7 +12,7 @@ use Rattle.path_lookup.specs.declared.direct.Course.TheVariants as course
 use Rattle.path_lookup.specs.declared.walk.Progress.{Progress}
 use Rattle.path_lookup.specs.declared.walk.Progress.TheVariants as progress
 use Rattle.directory_tree.specs.Components.{Step, slash, dot, dot_dot, steps_of}
-use Rattle.directory_tree.specs.Apply.{max_text}
+use Rattle.directory_tree.specs.Apply.{longest_link_text}
 use Rattle.directory_tree.specs.Tree.{Tree}
 use Rattle.directory_tree.specs.Name.{name_of}
 use Rattle.directory_tree.specs.Walk.{Spot, Walked, max_links, is_last, spot_of, start_of, resolve, walk}
@@ -69,7 +69,7 @@ most_left = 45015
 
 -- there is room for the texts of the links that are left
 abbrev pub HasRoom : ℕ → ℕ → Type 0
-HasRoom left links = left + max_text * links ≤ most_left
+HasRoom left links = left + longest_link_text * links ≤ most_left
 
 -- each step takes a byte, or a link whose text is shorter than what it counts
 abbrev pub work_left : ℕ → ℕ → ℕ

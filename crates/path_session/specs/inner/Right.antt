@@ -5,7 +5,7 @@ use Rattle.mediation.specs.Deeds.{Deed}
 use Rattle.justification.specs.declared.answer.Answer.TheVariants.{Judged}
 use Rattle.justification.specs.Justified.{Justified}
 use Rattle.verdict_cache.specs.Questions.{Asked, Kept}
-use Rattle.path_session.specs.Sitting.{IsNameJudged}
+use Rattle.path_session.specs.Sessions.{IsNameJudged}
 
 -- the verdict is a justified answer to what was asked, and the name is that of the file that was judged
 pub record IsRightFor (changes : List Change) (deeds : List Deed) (asked : Asked) (kept : Kept) : Type 0 where

@@ -3,9 +3,9 @@ use Rattle.std.specs.Prelude.{◌≡◌, ◌⊎◌, ◌≢◌, ◌+◌, ◌%◌,
 use Rattle.names.specs.declared.errors.Errno.{Errno}
 use Rattle.names.specs.declared.permissions.Perms.{Perms}
 use Rattle.directory_tree.specs.Tree.{Tree}
-use Rattle.mediation.specs.declared.opening.Reached as code
-use Rattle.mediation.specs.Judging.{reached_of}
-use Rattle.mediation.specs.Opening.{Reached, reached}
+use Rattle.mediation.specs.declared.opens.Reached as code
+use Rattle.mediation.specs.Judgments.{reached_of}
+use Rattle.mediation.specs.Opens.{Reached, reached}
 use Rattle.justification.specs.Versions.{IsTreeAt}
 use Rattle.row_rule.specs.declared.view.WalkerView.{WalkerView}
 use Rattle.row_rule.specs.declared.count.Busy.{Busy}

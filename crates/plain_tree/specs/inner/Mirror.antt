@@ -1,14 +1,14 @@
 -- A store that holds the entries of a tree.
-use Rattle.std.specs.Prelude.{◌≡◌, ℕ, ◌≤◌, ◌+◌, ◌==◌, true, List, length, Option, Some, None, Ok, if◌then◌else◌}
+use Rattle.std.specs.Prelude.{◌≡◌, ℕ, ◌<◌, ◌≤◌, ◌+◌, ◌^◌, ◌==◌, true, List, length, Option, Some, None, Ok, if◌then◌else◌}
 use Rattle.std.specs.Option.{option_map}
-use Rattle.names.specs.declared.paths.TheConstants.{LONGEST_COMPONENT}
+use Rattle.names.specs.declared.limits.TheConstants.{LONGEST_COMPONENT}
 use Rattle.plain_tree.specs.declared.directory.Node.{Node}
 use Rattle.plain_tree.specs.declared.directory.Parent.{Parent}
 use Rattle.directory_tree.specs.declared.node.NodeKind.{NodeKind}
 use Rattle.directory_tree.specs.declared.node.NodeKind.TheVariants.{Directory, File, Link}
 use Rattle.plain_tree.specs.declared.store.Store.{Store}
 use Rattle.directory_tree.specs.Tree.{Tree, Entry, Has, root, find, own_entry, is_directory, is_empty}
-use Rattle.directory_tree.specs.Apply.{tree_after, max_text}
+use Rattle.directory_tree.specs.Apply.{tree_after, longest_link_text}
 use Rattle.directory_tree.specs.Plain.{Plain, tree_of}
 use Rattle.plain_tree.specs.inner.Store.{stored_node, stored_parent, new_parent}
 
@@ -33,7 +33,7 @@ pub record Mirrors (s : Store) (t : Tree) : Type 0 where
 abbrev pub IsShortText : NodeKind → Type 0
 IsShortText Directory = Unit {0}
 IsShortText File = Unit {0}
-IsShortText (Link text) = length text ≤ max_text
+IsShortText (Link text) = length text ≤ longest_link_text
 
 pub record IsShort (e : Entry) : Type 0 where
   pub component_fits : length e.component ≤ LONGEST_COMPONENT
@@ -41,6 +41,7 @@ pub record IsShort (e : Entry) : Type 0 where
 
 -- a plain tree's parts, and what it is worth: a store, the number of entries, the next number, the number of changes
 pub record Holds (s : Store) (n number made : ℕ) (p : Plain) : Type 0 where
+  pub capacity_fits : p.capacity < 2 ^ 64
   pub accepted : tree_after p.capacity p.history ≡ Ok (tree_of p)
   pub mirrors : Mirrors s (tree_of p)
   pub entries : n ≡ length (tree_of p).entries

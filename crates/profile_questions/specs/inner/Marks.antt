@@ -1,7 +1,7 @@
 -- Which states' records say what is wanted of the names that lead to them.
 use Rattle.std.specs.Prelude.{◌≡◌, ◌↔◌, ◌&&◌, ℕ, Bool, true, false, List, Some, slice_get, slice_index_or}
 use Rattle.names.specs.declared.record.Record.{Record}
-use Rattle.automata.specs.Automata.{Automaton}
+use Rattle.automaton_rows.specs.Automata.{Automaton}
 use Rattle.automaton_search.specs.declared.states.States.{States}
 use Rattle.profile_questions.specs.declared.answer.Answer.{Answer}
 use Rattle.profile_questions.specs.Questions.{IsToldAs}

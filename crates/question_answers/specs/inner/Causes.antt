@@ -17,7 +17,7 @@ use Rattle.question_answers.specs.declared.cause.Cause.{Cause}
 use Rattle.question_answers.specs.declared.cause.Cause.TheVariants.{Allowed, Denied, NoRule}
 use Rattle.question_answers.specs.declared.cause.Causes.{Causes}
 use Rattle.question_answers.specs.declared.least.Wanted.{Wanted}
-use Rattle.question_answers.specs.inner.Wanting.{IsWantedOf}
+use Rattle.question_answers.specs.inner.Wants.{IsWantedOf}
 
 -- a cause as a reason
 abbrev pub reason_of : Cause → Reason

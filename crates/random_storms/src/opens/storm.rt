@@ -2,10 +2,10 @@
 ghost use Rattle.std.specs.Prelude.{◌≡◌};
 
 use super::fault::Fault;
-use super::noting::in_order;
-use super::opening::Opener;
+use super::notes::in_order;
 use super::plan::Plan;
 use super::scene::Scene;
+use super::sessions::Opener;
 use super::tally::{Counts, tally};
 use super::threads::{Brought, blow, threads_of};
 use dentry_cache::Keeper;

@@ -1,8 +1,8 @@
 //! The answers, checked against what was changed.
-use super::answering::Answered;
+use super::answers::Answered;
 use super::fault::Fault;
-use answer_trail::Trail;
 use directory_tree::Change;
+use justification::Trail;
 use matcher::PolicyChange;
 use names::Verdict;
 use path_guard::Answer;

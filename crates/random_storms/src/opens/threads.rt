@@ -1,12 +1,12 @@
 //! The threads of a storm.
-use super::answering::Answered;
-use super::changing::change_all;
+use super::answers::Answered;
+use super::changes::change_all;
 use super::fault::Fault;
-use super::noting::Noted;
-use super::opening::Opener;
+use super::notes::Noted;
 use super::plan::Plan;
-use super::publishing::publish_all;
+use super::publication::publish_all;
 use super::scene::Scene;
+use super::sessions::Opener;
 use matcher::PolicyChange;
 use path_guard::Row;
 use std::alloc::Global;

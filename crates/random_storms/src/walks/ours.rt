@@ -1,7 +1,7 @@
 //! The row of a storm: its keeper, and walkers that stay its walkers when they go to other threads and come back.
 ghost use Rattle.std.specs.Prelude.{◌≡◌, ◌≤◌, IfOk};
 
-use super::reaching::{Reached, Rooms, reach};
+use super::reach::{Reached, Rooms, reach};
 use dentry_cache::{Attempt, Busy, Keeper, NoSeat, Walker};
 use directory_tree::Change;
 use names::{Errno, LONGEST_PATH, Path};

@@ -1,6 +1,6 @@
 //! The tree of each version, rebuilt in plain memory, and compared with what was found.
 use super::answers::{Answer, Found};
-use super::reaching::{Rooms, reach};
+use super::reach::{Rooms, reach};
 use names::{Errno, Path};
 use path_lookup::WalkFault;
 use plain_tree::PlainTree;

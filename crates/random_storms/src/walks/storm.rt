@@ -4,7 +4,7 @@ ghost use Rattle.std.specs.Prelude.{◌≡◌};
 use super::ours::RowKeeper;
 use super::plan::Plan;
 use super::replay::differing;
-use super::walking::{Walked, Work, walk_all};
+use super::walker::{Walked, Work, walk_all};
 use dentry_cache::Keeper;
 use path_guard::Row;
 use std::alloc::{AllocError, Global};

@@ -9,8 +9,8 @@ use directory_tree::{Change, LinkBytes};
 use names::NoMemory;
 use path_session::Session;
 use profile_registry::Publisher;
-use refusal_parts::{Call, Difference, How, again, expect, expect_ok, path};
 use std::alloc::Global;
+use storm_parts::{Call, Difference, How, again, expect, expect_ok, path};
 
 /// Room for the entries of the tree.
 const ROOM: usize = 9;

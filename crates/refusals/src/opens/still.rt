@@ -5,7 +5,7 @@ use dentry_cache::{Keeper, NoSeat, Walker};
 use justification::Answer;
 use names::{Permission, Perms};
 use path_session::Session;
-use refusal_parts::{Call, Difference, expect_ok};
+use storm_parts::{Call, Difference, expect_ok};
 
 /// Whether the tree has this version, its count is even, a walk ends well, and the session's next open answers at the version.
 pub(crate) fn is_still_at(

@@ -2,7 +2,7 @@
 ghost use Rattle.std.specs.Prelude.{◌≤◌};
 ghost use Rattle.tree_row.specs.declared.cells.TheConstants.{MOST_ENTRIES};
 
-use crate::growing::{FEWEST_ENTRIES, numbered_files};
+use crate::trees::{FEWEST_ENTRIES, numbered_files};
 use tree_row::MOST_ENTRIES;
 
 /// What is done in a tree that has room for `capacity` entries, and `entries` of them.

@@ -1,13 +1,13 @@
 //! What the plan asks for, each with its line.
 use super::attempts::{Aim, Tally};
+use super::drawn_names::{numbers_there, run_drawn, run_names};
 use super::lines::{print_rate, print_time};
-use super::naming::{numbers_there, run_drawn, run_names};
 use super::plan::Plan;
 use super::rates::{SIDES, measure};
-use super::timing::{time_attempts, time_changes, time_clock, time_meets};
+use super::timer::{time_attempts, time_changes, time_clock, time_meets};
 use super::trips::{KINDS, trip_of};
 use crate::changes::path;
-use crate::growing::{DEEPEST, middle_name};
+use crate::trees::{DEEPEST, middle_name};
 use dentry_cache::Keeper;
 use names::Path;
 use std::alloc::Global;

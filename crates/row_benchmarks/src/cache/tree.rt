@@ -1,7 +1,7 @@
 //! The tree of a keeper.
 ghost use Rattle.std.specs.Prelude.{◌≤◌};
 
-use crate::growing::{Growing, grow};
+use crate::trees::{Growing, grow};
 use dentry_cache::Keeper;
 use directory_tree::Change;
 use std::alloc::Global;

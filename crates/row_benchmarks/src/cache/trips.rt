@@ -8,7 +8,7 @@ pub(crate) const KINDS: [&str; 8] = [
     "mkdir", "create", "symlink", "link", "unlink", "rmdir", "rename", "replace",
 ];
 
-/// A change, and what undoes it: one change more, or two.
+/// A change, and what undoes it: one more change, or two.
 #[derive(Drop)]
 pub(crate) struct Trip {
     pub there: Change<'static>,

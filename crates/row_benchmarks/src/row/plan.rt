@@ -2,7 +2,7 @@
 ghost use Rattle.std.specs.Prelude.{◌≤◌};
 ghost use Rattle.tree_row.specs.declared.cells.TheConstants.{MOST_ENTRIES};
 
-use crate::growing::FEWEST_ENTRIES;
+use crate::trees::FEWEST_ENTRIES;
 use tree_row::MOST_ENTRIES;
 
 /// A piece of work, done `count` times in a tree that has room for `capacity` entries.

@@ -1,7 +1,7 @@
 //! A tree in a row in memory.
 ghost use Rattle.std.specs.Prelude.{◌≤◌};
 
-use crate::growing::Growing;
+use crate::trees::Growing;
 use directory_tree::{Change, Last, root_alone_is_well_formed};
 use names::Path;
 use path_lookup::{NAME_ROOM, Scratch};

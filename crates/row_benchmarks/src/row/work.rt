@@ -1,6 +1,6 @@
 //! What is timed.
 use crate::changes::{change_of, path};
-use crate::growing::DEEPEST;
+use crate::trees::DEEPEST;
 use directory_tree::Change;
 use names::Path;
 

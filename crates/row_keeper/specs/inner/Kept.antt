@@ -4,7 +4,7 @@ use Rattle.std.specs.List.{All}
 use Rattle.directory_tree.specs.declared.change.Change.{Change}
 use Rattle.directory_tree.specs.declared.change.Change.TheVariants.{Mkdir}
 use Rattle.directory_tree.specs.Tree.{Tree}
-use Rattle.directory_tree.specs.Apply.{tree_after, max_changes}
+use Rattle.directory_tree.specs.Apply.{tree_after, most_changes}
 use Rattle.row_rule.specs.declared.cell.Cell.{Cell}
 use Rattle.row_rule.specs.declared.view.KeeperView.{KeeperView}
 use Rattle.row_rule.specs.declared.view.Pending.{Pending}
@@ -45,5 +45,5 @@ pub record IsKept (capacity : ℕ) (cells : List ℕ) (next version : ℕ) (hist
   pub next_is : next ≡ tree.next
   pub next_low : next ≤ version + pending_count (pending_of opened set) + 2
   pub version_is : version ≡ length history
-  pub few : version + pending_count (pending_of opened set) ≤ max_changes
+  pub few : version + pending_count (pending_of opened set) ≤ most_changes
   pub is_open : IsOpenIn (row_length capacity) history opened set

@@ -1,12 +1,12 @@
 -- What a plan leaves among the words of an index.
 use Rattle.std.specs.Prelude.{◌≡◌, ◌⊎◌, ℕ, ◌+◌, ◌^◌, ◌<◌, ◌≤◌, List, length, Option, Some, None}
 use Rattle.row_index.specs.Places.{around, index_length}
-use Rattle.row_index.specs.Hashing.{home}
+use Rattle.row_index.specs.Hashes.{home}
 use Rattle.row_index.specs.Index.{IsFound}
 use Rattle.row_index.specs.Edits.{index_at}
 use Rattle.tree_row.specs.Slots.{slot_at, IsUsed}
 use Rattle.tree_row.specs.Rows.{index_base, row_length}
-use Rattle.tree_row.specs.Finding.{InEncoding}
+use Rattle.tree_row.specs.Search.{InEncoding}
 use Rattle.row_rule.specs.declared.cell.Cell.{Cell}
 use Rattle.row_rule.specs.Row.{write}
 use Rattle.row_plan.specs.Plan.{IsLean}

@@ -1,4 +1,4 @@
--- The first rules of each permission that hold it and take a name.
+-- The first rules of each permission that hold it and match a name.
 use Rattle.std.specs.Prelude.{ℕ, Bool, true, false, Option, Some, None}
 use Rattle.names.specs.declared.permissions.Permission.{Permission}
 use Rattle.names.specs.declared.permissions.Permission.TheVariants.{Read, Write, Link, Lock, Map, Append}
@@ -16,7 +16,7 @@ abbrev pub with_rule : RuleKind → ℕ → FirstHits → FirstHits
 with_rule Deny rule hits = record { denied = with_first hits.denied rule; allowed = hits.allowed }
 with_rule Allow rule hits = record { denied = hits.denied; allowed = with_first hits.allowed rule }
 
--- with one more rule that takes the name, by whether it holds the permission
+-- with one more rule that matches the name, by whether it holds the permission
 abbrev pub with_hit : FirstHits → Bool → RuleKind → ℕ → FirstHits
 with_hit hits false kind rule = hits
 with_hit hits true kind rule = with_rule kind rule hits

@@ -14,7 +14,7 @@ use Rattle.rule_globs.specs.Rules.{RuleValue, holds, pattern}
 use Rattle.rule_globs.specs.Verdict.{IsRuleAt}
 use Rattle.rule_profile.specs.Rules.{rule_value}
 use Rattle.rule_influence.specs.declared.candidates.Case.{Case}
-use Rattle.rule_influence.specs.declared.standing.IdleCase.{IdleCase}
+use Rattle.rule_influence.specs.declared.substitutes.IdleCase.{IdleCase}
 
 -- number is none of a set of numbers from 1 to count, which is given by its least number and by the least when they are counted from
 -- the other end
@@ -54,7 +54,7 @@ abbrev pub IsCandidate : Case → Records → ℕ → Type 0
 IsCandidate case records n =
     (p : Permission) × (candidate case.count case.number (rule_value case.rule.now) case.perms records p ≡ n) × (n ≢ 0)
 
--- and the case's rule takes the name
+-- and the case's rule matches the name
 abbrev pub IsAtName : Case → Records → List ℕ → ℕ → Type 0
 IsAtName case records name n = IsCandidate case records n × Takes (pattern (rule_value case.rule.now)) name
 

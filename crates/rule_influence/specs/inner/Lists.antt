@@ -4,7 +4,7 @@ use Rattle.std.specs.declared.alloc.Global.{Global}
 use Rattle.profile_questions.specs.declared.comparison.Records.{Records}
 use Rattle.rule_globs.specs.Rules.{RuleValue}
 use Rattle.rule_influence.specs.StandIns.{IsAscending}
-use Rattle.rule_influence.specs.declared.standing.IdleCase.{IdleCase}
+use Rattle.rule_influence.specs.declared.substitutes.IdleCase.{IdleCase}
 use Rattle.rule_influence.specs.inner.Candidates.{IsAtNameFor}
 
 abbrev pub numbers_of : List (Vec ℕ Global) → List (List ℕ)

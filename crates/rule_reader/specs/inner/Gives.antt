@@ -1,8 +1,8 @@
 -- The result of a function of the reader, compared with what reading gives.
 use Rattle.std.specs.Prelude.{◌≡◌, Result, Ok, Err}
-use Rattle.rule_reader.specs.declared.reading.local_fault.LocalFault.{LocalFault}
-use Rattle.rule_reader.specs.declared.reading.local_fault.Failure.{Failure}
-use Rattle.rule_reader.specs.declared.reading.local_fault.Failure.TheVariants as failures
+use Rattle.rule_reader.specs.declared.reader.local_fault.LocalFault.{LocalFault}
+use Rattle.rule_reader.specs.declared.reader.local_fault.Failure.{Failure}
+use Rattle.rule_reader.specs.declared.reader.local_fault.Failure.TheVariants as failures
 
 -- What a function failed with is what reading stops with, unless memory ran out.
 abbrev pub Fails : {Y : Type 0} → Failure → Result Y LocalFault → Type 0

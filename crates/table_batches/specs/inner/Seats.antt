@@ -25,7 +25,7 @@ AreNamed names count = (k : ℕ) → k < 8 → get_or names k 0 < count
 abbrev pub AreLeft : List ℕ → List ℕ → List ℕ → ℕ → Type 0
 AreLeft offsets names begins shared = (k : ℕ) → k < 8 → get_or begins k 0 + shared ≤ get_or offsets (get_or names k 0 + 1) 0
 
--- a name, the place that it has come to, and the state there
+-- a name, the place that it has reached, and the state there
 pub record IsSeat (t : Table) (text offsets : List ℕ) (count name begin state : ℕ) : Type 0 where
   pub there : state < state_count t
   pub named : name < count

@@ -2,13 +2,13 @@
 use Rattle.std.specs.Prelude.{◌≡◌, ◌≢◌, ◌⊎◌, ℕ, ◌+◌, ◌*◌, ◌/◌, ◌<◌, ◌≤◌, ◌==◌, true, false, List, ◌++◌, length, Some, slice_get}
 use Rattle.std.specs.Prelude.{slice_index_or, if◌then◌else◌, Contains}
 use Rattle.names.specs.declared.record.Record.{Record}
-use Rattle.automata.specs.Automata.{Automaton, target}
-use Rattle.automata.specs.declared.range.TargetRange.{TargetRange}
-use Rattle.automata.specs.Rows.{IsRowFrom, target_in}
+use Rattle.automaton_rows.specs.Automata.{Automaton, target}
+use Rattle.automaton_rows.specs.declared.range.TargetRange.{TargetRange}
+use Rattle.automaton_rows.specs.Rows.{IsRowFrom, target_in}
 use Rattle.tables.specs.Tables.{Table, default_of, depth_of}
 use Rattle.table_image.specs.Chains.{source}
 use Rattle.table_image.specs.declared.taken.Taken.{Taken}
-use Rattle.table_image.specs.inner.Taking.{is_taken, is_blocked}
+use Rattle.table_image.specs.inner.TakenCells.{is_taken, is_blocked}
 
 -- what a free cell's check is
 abbrev pub free : ℕ

@@ -37,7 +37,7 @@ abbrev pub IsImageRead : Option (List ℕ) → Result (Vec ℕ Global) Fault →
 IsImageRead left (Ok image) = IsTextOf left image.items
 IsImageRead left (Err f) = IsUnread left f
 
--- the bytes of a wanted answer, or a fault in its place
+-- the bytes of an answer that may be written, or a fault in its place
 abbrev pub IsAnswered : (Output → Type 0) → Result (Vec ℕ Global) Fault → Type 0
 IsAnswered Wanted (Ok bytes) = Wanted (whole_answer bytes.items)
 IsAnswered Wanted (Err f) = IsFaultOfOne Wanted f

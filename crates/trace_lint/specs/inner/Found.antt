@@ -8,8 +8,8 @@ use Rattle.rule_globs.specs.Rules.{RuleValue}
 use Rattle.rule_profile.specs.declared.profile.Span.{Span}
 use Rattle.trace_lint.specs.Findings.{FindingValue, first_idle}
 use Rattle.trace_lint.specs.Parts.{case_of}
-use Rattle.trace_lint.specs.declared.finding.Finding.{Finding}
-use Rattle.trace_lint.specs.declared.finding.Part.{Part}
+use Rattle.trace_lint.specs.declared.findings.Finding.{Finding}
+use Rattle.trace_lint.specs.declared.findings.Part.{Part}
 
 abbrev pub finding_value : Finding → FindingValue
 finding_value f = record { part = f.part; stand_ins = f.stand_ins.now; idle = f.idle }

@@ -8,7 +8,7 @@ ghost use Rattle.trace_report.specs.declared.status.Status.TheVariants.{Done, Un
 ghost use Rattle.trace_script.specs.Engine.{IsClosed, IsComposed, IsLineRead, IsPut, IsText, stop_status};
 ghost use Rattle.trace_script.specs.RunOutput.{Printed, ScriptEnds};
 ghost use Rattle.trace_script.specs.Script.{line_feed, outside, script_of, within};
-ghost use Rattle.trace_script.specs.declared.reading.LineRead.TheVariants.{Whole, Last, End};
+ghost use Rattle.trace_script.specs.declared.reader.LineRead.TheVariants.{Whole, Last, End};
 ghost use Rattle.trace_script.specs.declared.stop.Stop.{Stop};
 ghost use Rattle.trace_script.specs.declared.stop.Stop.TheVariants.{NoCommand, Memory, Output};
 

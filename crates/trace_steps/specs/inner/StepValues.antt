@@ -2,7 +2,7 @@
 use Rattle.trace_script.specs.declared.line.LineKind.{LineKind as LineKindHere}
 use Rattle.trace_script.specs.LineValues.{change_words, kind_by}
 use Rattle.trace_script.specs.Script.{LineOf}
-use Rattle.event_core.specs.Coded.{event_of}
+use Rattle.event_machine.specs.Coded.{event_of}
 use Rattle.trace_steps.specs.declared.command.StepCommand.{StepCommand as StepCommandHere}
 use Rattle.trace_steps.specs.declared.command.StepCommand.TheVariants.{Remove, Alter, Open, Single, ReadCells, Finish, Keep, SetCells}
 use Rattle.trace_steps.specs.declared.command.StepCommand.TheVariants.{Close}

@@ -9,7 +9,7 @@ use Rattle.std.proofs.Common.{ap, subst}
 use Rattle.names.specs.declared.permissions.Perms.{Perms}
 use Rattle.names.specs.contracts.permissions.PermsPartialEq.TheImpl as perms
 use Rattle.verdict_cache.specs.Questions.{Asked, asks}
-use Rattle.verdict_cache.specs.inner.Hashing.{writes}
+use Rattle.verdict_cache.specs.inner.QuestionHashes.{writes}
 
 both : (s t : Bool) → s ≡ true → t ≡ true → (s && t) ≡ true
 both true t h k = k

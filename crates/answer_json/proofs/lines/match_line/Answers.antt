@@ -1,7 +1,7 @@
 use Rattle.std.proofs.Common.{◌≡◌, ◌++◌, List, Vec, Global, ℕ, ◌∙◌, ap, ap₂, drop}
 use Rattle.answer_json.specs.Lines.{json_line}
 use Rattle.answer_json.specs.inner.Front.{rest_of_match}
-use Rattle.answer_json.proofs.Splicing.{line_of_parts, without_first}
+use Rattle.answer_json.proofs.JoinedVerdicts.{line_of_parts, without_first}
 use Rattle.answer_json.proofs.lines.match_line.Goals as goal
 
 pub returns-in-Ok : goal.returns-in-Ok

@@ -1,6 +1,6 @@
 -- What is left of the row from this byte on.
 use Rattle.std.proofs.Common.{◌≡◌, ◌-◌, ◌≤◌, ℕ}
-use Rattle.automata.specs.Rows.{target_in, IsRowFrom}
+use Rattle.automaton_rows.specs.Rows.{target_in, IsRowFrom}
 use Rattle.automaton_search.proofs.steps.row_from.Given as goal
 
 abbrev pub invariant-loop-rest : goal.invariant-loop-rest

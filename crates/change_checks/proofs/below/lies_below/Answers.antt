@@ -1,7 +1,7 @@
 use Rattle.std.proofs.Common.{refl, sym, ap, subst, ◌∙◌}
 use Rattle.std.specs.Prelude.{IfSome}
 use Rattle.std.specs.Option.{option_map}
-use Rattle.change_checks.proofs.Climbing.{climb_start, climb_here, climb_root, climb_up}
+use Rattle.change_checks.proofs.Climbs.{climb_start, climb_here, climb_root, climb_up}
 use Rattle.change_checks.proofs.below.lies_below.Goals as goal
 
 pub loop-step-init : goal.loop-step-init

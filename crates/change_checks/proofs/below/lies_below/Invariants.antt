@@ -1,6 +1,6 @@
 use Rattle.std.proofs.Common.{◌≡◌}
 use Rattle.path_lookup.specs.World.{World}
-use Rattle.change_checks.proofs.Climbing.{ClimbsTo}
+use Rattle.change_checks.proofs.Climbs.{ClimbsTo}
 use Rattle.change_checks.proofs.below.lies_below.Given as goal
 
 abbrev pub invariant-loop-step : goal.invariant-loop-step

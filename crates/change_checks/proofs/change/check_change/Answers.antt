@@ -2,7 +2,7 @@ use Rattle.std.proofs.Common.{sym, subst}
 use Rattle.std.specs.Prelude.{IfErr}
 use Rattle.directory_tree.specs.declared.change.Change.{Change}
 use Rattle.directory_tree.specs.Apply.{apply, has_room}
-use Rattle.path_lookup.specs.Walking.{IsFault}
+use Rattle.path_lookup.specs.WalkFaults.{IsFault}
 use Rattle.change_checks.proofs.change.check_change.Goals as goal
 
 pub returns-in-Symlink-clause-fault : goal.returns-in-Symlink-clause-fault

@@ -5,7 +5,7 @@ use Rattle.directory_tree.specs.Apply.{moved}
 use Rattle.path_lookup.specs.World.{World}
 use Rattle.change_checks.proofs.Faults.{fault_passed}
 use Rattle.change_checks.proofs.Files.{entry_in}
-use Rattle.change_checks.proofs.Replacing.{child_held, rename_refused}
+use Rattle.change_checks.proofs.Replacement.{child_held, rename_refused}
 use Rattle.change_checks.proofs.rename.check_onto.Goals as goal
 
 pub returns-in_err-check_replaced-clause-fault : goal.returns-in_err-check_replaced-clause-fault

@@ -1,4 +1,4 @@
-use Rattle.directory_tree.proofs.Standing.{stay_back, follow_back}
+use Rattle.directory_tree.proofs.Presence.{stay_back, follow_back}
 use Rattle.directory_tree.proofs.laws.name_leads_back.Goals as goal
 
 pub returns-clause-stay : goal.returns-clause-stay

@@ -1,4 +1,4 @@
-use Rattle.directory_tree.proofs.Standing.{one_name}
+use Rattle.directory_tree.proofs.Presence.{one_name}
 use Rattle.directory_tree.proofs.laws.names_differ.Goals as goal
 
 pub returns : goal.returns

@@ -1,4 +1,4 @@
-use Rattle.directory_tree.proofs.Dropping.{unlink_keeps, rmdir_keeps}
+use Rattle.directory_tree.proofs.Drops.{unlink_keeps, rmdir_keeps}
 use Rattle.directory_tree.proofs.laws.removal_keeps_well_formed.Goals as goal
 
 pub returns-clause-unlink : goal.returns-clause-unlink

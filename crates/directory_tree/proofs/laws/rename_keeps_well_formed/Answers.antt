@@ -1,4 +1,4 @@
-use Rattle.directory_tree.proofs.Renaming.{rename_keeps}
+use Rattle.directory_tree.proofs.Renames.{rename_keeps}
 use Rattle.directory_tree.proofs.laws.rename_keeps_well_formed.Goals as goal
 
 pub returns : goal.returns

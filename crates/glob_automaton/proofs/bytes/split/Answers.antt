@@ -1,6 +1,6 @@
 -- Each byte stays with its least one, joins the first one that isn't taken as that, or is the first one itself.
 use Rattle.std.proofs.Common.{◌+◌, refl, sym, subst₂, arith}
-use Rattle.glob_automaton.proofs.Splitting.{SplitBefore, kept_step, joined_step, begun_step, as_new, all_parted}
+use Rattle.glob_automaton.proofs.Splits.{SplitBefore, kept_step, joined_step, begun_step, as_new, all_parted}
 use Rattle.glob_automaton.proofs.bytes.split.Goals as goal
 use Rattle.glob_automaton.proofs.bytes.split.Goals.{in-Some, in-None}
 

@@ -1,5 +1,5 @@
 -- The bytes before this one are parted.
-use Rattle.glob_automaton.proofs.Splitting.{SplitBefore}
+use Rattle.glob_automaton.proofs.Splits.{SplitBefore}
 use Rattle.glob_automaton.proofs.bytes.split.Given as goal
 
 abbrev pub invariant-loop-byte : goal.invariant-loop-byte

@@ -1,5 +1,5 @@
 use Rattle.std.proofs.Common.{sym, subst}
-use Rattle.glob_automaton.specs.inner.Gathering.{IsAscending}
+use Rattle.glob_automaton.specs.inner.GatheredSets.{IsAscending}
 use Rattle.glob_automaton.proofs.PlaceLists.{ascends_more}
 use Rattle.glob_automaton.proofs.place_bits.push.Goals as goal
 

@@ -1,6 +1,6 @@
 -- The places of the bits so far are appended.
 use Rattle.std.proofs.Common.{◌≡◌, ◌↔◌, ◌⊎◌, ℕ, ◌+◌, ◌-◌, ◌*◌, ◌/◌, ◌%◌, ◌<◌, ◌≤◌, true, Contains}
-use Rattle.glob_automaton.specs.inner.Gathering.{IsAscending}
+use Rattle.glob_automaton.specs.inner.GatheredSets.{IsAscending}
 use Rattle.glob_automaton.specs.inner.PlaceBits.{is_bit}
 use Rattle.glob_automaton.proofs.place_bits.push_word.Given as goal
 

@@ -2,7 +2,7 @@ use denote.Exit.{no}
 use denote.Param.{param}
 use denote.Param.Send.{shr_send}
 use Rattle.path_guard.proofs.Closures.{of_three}
-use Rattle.guarded_row.proofs.Sending.{guarded_row_sync}
+use Rattle.guarded_row.proofs.ThreadSafety.{guarded_row_sync}
 use Rattle.guard_tests.proofs.locked.Signals.TheSendSync as signals
 use Rattle.guard_tests.proofs.locked.open_under_lock.Goals as goal
 

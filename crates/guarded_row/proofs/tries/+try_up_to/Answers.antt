@@ -1,6 +1,6 @@
 use Rattle.std.proofs.Common.{arith, ◌-◌, subst, sym}
 use Rattle.guarded_row.specs.Tries.{IsBusy}
-use Rattle.guarded_row.proofs.Trying.{again}
+use Rattle.guarded_row.proofs.LastTries.{again}
 use Rattle.guarded_row.proofs.tries.+try_up_to.Goals as goal
 
 pub returns-in-Busy : goal.returns-in-Busy

@@ -1,4 +1,4 @@
--- One name more has its answer.
+-- One more name has its answer.
 use Rattle.std.proofs.Common.{◌∙◌, ◌+◌, ◌-◌, ◌<◌, ℕ, get_or, length, length-set, slice_set, sym, subst, arith}
 use Rattle.std.proofs.lemmas.Option.{slice_get-get_or}
 use Rattle.table_batches.specs.Batches.{name_at as part_name_at, IsAfter}

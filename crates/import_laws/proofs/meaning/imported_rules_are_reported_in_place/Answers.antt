@@ -1,15 +1,15 @@
 use Rattle.std.proofs.Common.{List, [], ◌∷◌, ◌++◌, refl, sym, ap, ◌∙◌, subst}
 use Rattle.std.specs.List.{Contains}
 use Rattle.rule_globs.specs.Each.{Each}
-use Rattle.flat_text.specs.Laws.{IsItem}
-use Rattle.flat_text.specs.Parts.{ItemValue}
-use Rattle.subject_rules.specs.Restating.{shape_of}
-use Rattle.subject_rules.specs.Subjects.{other_subject}
-use Rattle.import_cut.specs.declared.span.Span.{Span}
-use Rattle.import_cut.specs.Cutting.{cut_of}
-use Rattle.profile_import.specs.FileRules.{item_reading, subject_rule}
-use Rattle.profile_import.specs.Imports.{choice_of}
-use Rattle.profile_import.proofs.ToldShapes.{told_change}
+use Rattle.apparmor_text.specs.Laws.{IsItem}
+use Rattle.apparmor_text.specs.Parts.{ItemValue}
+use Rattle.apparmor_rules.specs.Restatement.{shape_of}
+use Rattle.apparmor_rules.specs.Subjects.{other_subject}
+use Rattle.import_spans.specs.declared.span.Span.{Span}
+use Rattle.import_spans.specs.Cuts.{cut_of}
+use Rattle.import_profile.specs.FileRules.{item_reading, subject_rule}
+use Rattle.import_profile.specs.Imports.{choice_of}
+use Rattle.import_profile.proofs.ToldShapes.{told_change}
 use Rattle.import_laws.specs.Imported.{variables_of}
 use Rattle.import_laws.proofs.meaning.imported_rules_are_reported_in_place.Goals as goal
 

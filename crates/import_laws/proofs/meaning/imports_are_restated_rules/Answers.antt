@@ -1,10 +1,10 @@
 use Rattle.std.proofs.Common.{◌≡◌, ℕ, List, Some, None, refl, sym, ap, ◌∙◌}
 use Rattle.std.specs.Prelude.{slice_get}
-use Rattle.flat_text.specs.Parts.{ItemValue}
+use Rattle.apparmor_text.specs.Parts.{ItemValue}
 use Rattle.import_scope.specs.Scopes.{Head}
-use Rattle.profile_import.specs.Imports.{ImportValue, choice_of, chosen_number}
-use Rattle.profile_import.specs.Restated.{all_rules}
-use Rattle.subject_rules.specs.Restating.{restated_all}
+use Rattle.import_profile.specs.Imports.{ImportValue, choice_of, chosen_number}
+use Rattle.import_profile.specs.Restated.{all_rules}
+use Rattle.apparmor_rules.specs.Restatement.{restated_all}
 use Rattle.import_laws.specs.Imported.{mode_from, plain_rules}
 use Rattle.import_laws.proofs.Opened.{known, end_of, asked, opened, import_of}
 use Rattle.import_laws.proofs.RestatedLists.{without_places}

@@ -6,12 +6,12 @@ use Rattle.std.proofs.lemmas.Bool.Decides.{nat_tests}
 use Rattle.std.proofs.lemmas.List.{length-map}
 use Rattle.std.proofs.lemmas.List.Sums.{list_all-from_AllPass}
 use Rattle.rule_profile.specs.Readable.{is_name, is_path, is_profile, is_rule}
-use Rattle.import_cut.specs.CutStates as cuts
-use Rattle.import_paths.specs.ImportedPaths.{imported_paths}
+use Rattle.import_spans.specs.CutStates as cuts
+use Rattle.import_profile.specs.ImportedPaths.{imported_paths}
 use Rattle.import_scope.specs.Scopes.{at_start}
-use Rattle.profile_import.specs.declared.options.ImportOptions.{ImportOptions}
-use Rattle.profile_import.specs.Imports.{ImportValue, choice_of}
-use Rattle.profile_import.specs.Restated.{PlacedValue, all_rules, cut_for}
+use Rattle.import_profile.specs.declared.options.ImportOptions.{ImportOptions}
+use Rattle.import_profile.specs.Imports.{ImportValue, choice_of}
+use Rattle.import_profile.specs.Restated.{PlacedValue, all_rules, cut_for}
 use Rattle.import_laws.proofs.Opened.{Opened, known, opened, placed_values}
 use Rattle.import_laws.proofs.Readable.{all_good, at_most, names_are_said, rules_pass}
 use Rattle.import_laws.proofs.RestatedLists.{without_places}

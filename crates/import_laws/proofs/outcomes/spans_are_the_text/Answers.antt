@@ -1,9 +1,9 @@
 use Rattle.std.proofs.Common.{ℕ, List, length, sym, subst}
 use Rattle.rule_globs.specs.Each.{Each}
-use Rattle.import_cut.specs.Spans.{Covers, IsRight}
-use Rattle.profile_import.specs.FileRules.{item_reading}
-use Rattle.profile_import.specs.Imports.{ImportValue, choice_of}
-use Rattle.profile_import.specs.Restated.{cut_for}
+use Rattle.import_spans.specs.Spans.{Covers, IsRight}
+use Rattle.import_profile.specs.FileRules.{item_reading}
+use Rattle.import_profile.specs.Imports.{ImportValue, choice_of}
+use Rattle.import_profile.specs.Restated.{cut_for}
 use Rattle.import_laws.proofs.Opened.{known, opened}
 use Rattle.import_laws.proofs.outcomes.spans_are_the_text.Goals as goal
 

@@ -1,9 +1,9 @@
 use Rattle.std.proofs.Common.{List, length, Option, refl, sym, ap, ◌∙◌, subst}
-use Rattle.flat_text.specs.Parts.{ItemValue}
-use Rattle.flat_words.specs.Steps.{Stop}
+use Rattle.apparmor_text.specs.Parts.{ItemValue}
+use Rattle.apparmor_words.specs.Steps.{Stop}
 use Rattle.import_scope.specs.FirstFaults.{FirstFault}
 use Rattle.import_scope.specs.Scopes.{Fault, at_start}
-use Rattle.profile_import.specs.Imports.{read_outcome}
+use Rattle.import_profile.specs.Imports.{read_outcome}
 use Rattle.import_laws.proofs.outcomes.texts_have_one_import.Goals as goal
 
 pub returns-clause-some : goal.returns-clause-some

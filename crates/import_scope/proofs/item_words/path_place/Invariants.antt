@@ -1,6 +1,6 @@
 -- What comes before the parts that are left, and what comes before the word in them.
 use Rattle.std.proofs.Common.{◌≡◌, ◌+◌, drop}
-use Rattle.flat_rules.specs.RuleWords.{is_path}
+use Rattle.apparmor_rules.specs.RuleWords.{is_path}
 use Rattle.import_scope.specs.ItemWords.{bytes_before}
 use Rattle.import_scope.proofs.item_words.path_place.Given as goal
 

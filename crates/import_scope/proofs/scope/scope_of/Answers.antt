@@ -1,7 +1,7 @@
 use Rattle.std.proofs.Common.{◌≡◌, List, Option, None, map, sym, ap, ◌∙◌, subst, option_map}
-use Rattle.flat_text.specs.Parts.{ItemValue}
-use Rattle.profile_variables.specs.Variables.{Variable}
-use Rattle.profile_variables.proofs.Places.{first_of_two}
+use Rattle.apparmor_text.specs.Parts.{ItemValue}
+use Rattle.apparmor_variables.specs.Variables.{Variable}
+use Rattle.apparmor_variables.proofs.Places.{first_of_two}
 use Rattle.import_scope.specs.declared.fault.ScopeFault.{ScopeFault}
 use Rattle.import_scope.specs.FirstFaults.{FirstFault, nothing_counted}
 use Rattle.import_scope.specs.Scopes.{ScopeState, Head, Fault, at_start}
@@ -9,7 +9,7 @@ use Rattle.import_scope.specs.Told.{fault_value}
 use Rattle.import_scope.specs.inner.Outlines.{AskedValue, asked_value, last_state, head_stop, all_asked}
 use Rattle.import_scope.specs.inner.Problems.{FirstProblem}
 use Rattle.import_scope.proofs.Passes.{both_passes}
-use Rattle.import_scope.proofs.Extending.{AreNamed, last_is_behind, named_last}
+use Rattle.import_scope.proofs.Extensions.{AreNamed, last_is_behind, named_last}
 use Rattle.import_scope.proofs.scope.scope_of.Goals as goal
 
 -- the first fault, of what the passes gave

@@ -1,4 +1,4 @@
-use Rattle.justification.proofs.Agreeing.{one_tree}
+use Rattle.justification.proofs.Agreement.{one_tree}
 use Rattle.justification.proofs.laws.a_version_has_one_tree.Goals as goal
 
 pub returns : goal.returns

@@ -1,4 +1,4 @@
-use Rattle.justification.proofs.Agreeing.{one_verdict}
+use Rattle.justification.proofs.Agreement.{one_verdict}
 use Rattle.justification.proofs.laws.one_verdict_is_justified.Goals as goal
 
 pub returns : goal.returns

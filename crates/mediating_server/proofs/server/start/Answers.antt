@@ -1,7 +1,7 @@
 use denote.Exit.{no}
 use denote.Param.{param}
 use denote.Param.Send.{shr_send}
-use Rattle.mediating_server.proofs.Sending.{worker_send, scene_sync, of_three}
+use Rattle.mediating_server.proofs.ThreadSafety.{worker_send, scene_sync, of_three}
 use Rattle.mediating_server.proofs.server.start.Goals as goal
 
 pub spawn-thread-requires-send-F : goal.spawn-thread-requires-send-F

@@ -1,4 +1,4 @@
-use Rattle.mediation.proofs.Telling.{table_as_rules}
+use Rattle.mediation.proofs.RecordVerdicts.{table_as_rules}
 use Rattle.mediation.proofs.laws.tables_of_rules_judge_as_their_rules.Goals as goal
 
 pub returns : goal.returns

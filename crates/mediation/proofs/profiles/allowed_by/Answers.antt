@@ -1,6 +1,6 @@
 -- Each permission in turn is added to the set, or isn't.
 use Rattle.std.proofs.Common.{◌+◌, sym, ◌∙◌, subst}
-use Rattle.mediation.proofs.Telling.{is_allowed_by, told_allowed}
+use Rattle.mediation.proofs.RecordVerdicts.{is_allowed_by, told_allowed}
 use Rattle.mediation.specs.Profiles.{judge_of}
 use Rattle.names.specs.declared.permissions.Permission.TheVariants.{Read}
 use Rattle.names.proofs.PermsTests.{IsPassedBefore, passed-all, passed-more, passed-same}

@@ -1,6 +1,6 @@
 -- The set holds the permissions so far that are allowed.
 use Rattle.names.proofs.PermsTests.{IsPassedBefore}
-use Rattle.mediation.proofs.Telling.{is_allowed_by}
+use Rattle.mediation.proofs.RecordVerdicts.{is_allowed_by}
 use Rattle.mediation.specs.Profiles.{judge_of}
 use Rattle.mediation.proofs.profiles.allowed_by.Given as goal
 

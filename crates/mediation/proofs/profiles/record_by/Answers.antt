@@ -1,8 +1,8 @@
 use Rattle.std.proofs.Common.{sym, subst}
 use Rattle.matcher.specs.declared.profiles.AnyProfile.{AnyProfile}
-use Rattle.mediation.proofs.Telling.{rules_tell, table_tells}
+use Rattle.mediation.proofs.RecordVerdicts.{rules_tell, table_tells}
 use Rattle.mediation.specs.Profiles.{judge_of}
-use Rattle.mediation.specs.inner.Telling.{Tells}
+use Rattle.mediation.specs.inner.RecordVerdicts.{Tells}
 use Rattle.rule_profile.specs.Profile.{profile_value}
 use Rattle.mediation.proofs.profiles.record_by.Goals as goal
 

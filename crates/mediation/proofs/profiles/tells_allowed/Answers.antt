@@ -1,6 +1,6 @@
 use Rattle.std.proofs.Common.{ap, sym}
-use Rattle.rule_judge.specs.Linking.{is_allowed}
-use Rattle.mediation.proofs.Telling.{not_allowed}
+use Rattle.rule_judge.specs.Links.{is_allowed}
+use Rattle.mediation.proofs.RecordVerdicts.{not_allowed}
 use Rattle.mediation.proofs.profiles.tells_allowed.Goals as goal
 
 pub returns-in-Allowed : goal.returns-in-Allowed

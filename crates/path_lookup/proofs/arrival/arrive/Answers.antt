@@ -2,7 +2,7 @@ use Rattle.std.proofs.Common.{◌≡◌, ◌∙◌, sym, ap, true, false}
 use Rattle.std.specs.Prelude.{bytes_eq}
 use Rattle.std.specs.Option.{unwrap_or}
 use Rattle.directory_tree.specs.Components.{dot, dot_dot}
-use Rattle.path_lookup.proofs.Arriving.{arrive_up, unwrap_map}
+use Rattle.path_lookup.proofs.Arrivals.{arrive_up, unwrap_map}
 use Rattle.path_lookup.proofs.arrival.arrive.Goals as goal
 
 pub returns-then-eq-2-clause-answer : goal.returns-then-eq-2-clause-answer

@@ -3,8 +3,8 @@ use Rattle.std.specs.Option.{option_map}
 use Rattle.directory_tree.specs.declared.node.Last.TheVariants.{Stay}
 use Rattle.directory_tree.specs.Walk.{stays, is_last}
 use Rattle.directory_tree.specs.Spots.{kind_at}
-use Rattle.path_lookup.proofs.Arriving.{arrive_down, directory_goes, file_ends, file_fails, link_stays}
-use Rattle.path_lookup.proofs.Arriving.{directory_stands}
+use Rattle.path_lookup.proofs.Arrivals.{arrive_down, directory_goes, file_ends, file_fails, link_stays}
+use Rattle.path_lookup.proofs.Arrivals.{directory_stands}
 use Rattle.path_lookup.proofs.arrival.arrive_down.Goals as goal
 
 pub returns-in-Directory-clause-answer : goal.returns-in-Directory-clause-answer

@@ -3,9 +3,9 @@ use Rattle.std.proofs.lemmas.List.{length-append}
 use Rattle.directory_tree.specs.Components.{step_of, steps_of}
 use Rattle.directory_tree.specs.Walk.{walk, is_last, max_links, resolve}
 use Rattle.directory_tree.specs.Spots.{node_at}
-use Rattle.path_lookup.proofs.Naming.{stem, name_split, closing_other}
+use Rattle.path_lookup.proofs.NameParts.{stem, name_split, closing_other}
 use Rattle.path_lookup.proofs.OwnNames.{stem_down, no_rest}
-use Rattle.path_lookup.proofs.Stepping.{fault_along, passed_on, ends_here}
+use Rattle.path_lookup.proofs.WalkSteps.{fault_along, passed_on, ends_here}
 use Rattle.path_lookup.proofs.direct.walk_directly.Goals as goal
 
 pub returns-in_err-arrival-clause-fault : goal.returns-in_err-arrival-clause-fault

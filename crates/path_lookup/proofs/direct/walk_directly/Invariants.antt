@@ -3,7 +3,7 @@ use Rattle.std.proofs.Common.{◌≡◌, ◌≤◌, ◌++◌, length}
 use Rattle.directory_tree.specs.Walk.{walk, max_links}
 use Rattle.path_lookup.specs.World.{World, Narrows}
 use Rattle.path_lookup.specs.inner.Steps.{IsDirectory, onward_from}
-use Rattle.path_lookup.proofs.Naming.{stem}
+use Rattle.path_lookup.proofs.NameParts.{stem}
 use Rattle.path_lookup.proofs.direct.walk_directly.Given as goal
 
 abbrev pub invariant-loop-component : goal.invariant-loop-component

@@ -4,8 +4,8 @@ use Rattle.std.proofs.lemmas.List.{drop_all}
 use Rattle.directory_tree.specs.Components.{slash}
 use Rattle.directory_tree.specs.Name.{judged, judged_name}
 use Rattle.path_lookup.specs.World.{World}
-use Rattle.path_lookup.proofs.Naming.{stem, name_split, stem_up, closing_directory, closing_other}
-use Rattle.path_lookup.proofs.Stepping.{fault_along, passed_on}
+use Rattle.path_lookup.proofs.NameParts.{stem, name_split, stem_up, closing_directory, closing_other}
+use Rattle.path_lookup.proofs.WalkSteps.{fault_along, passed_on}
 use Rattle.path_lookup.proofs.name.name_of.Goals as goal
 use Rattle.path_lookup.proofs.name.name_of.Goals.{in-Directory, in-File}
 

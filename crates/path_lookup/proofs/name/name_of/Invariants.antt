@@ -2,7 +2,7 @@
 use Rattle.std.proofs.Common.{◌≡◌, ◌<◌, ◌≤◌, ◌++◌, drop}
 use Rattle.directory_tree.specs.Name.{name_of}
 use Rattle.path_lookup.specs.World.{World, Narrows}
-use Rattle.path_lookup.proofs.Naming.{stem}
+use Rattle.path_lookup.proofs.NameParts.{stem}
 use Rattle.path_lookup.proofs.name.name_of.Given as goal
 
 abbrev pub invariant-loop-directory : goal.invariant-loop-directory

@@ -1,7 +1,7 @@
 use Rattle.std.proofs.Common.{◌≡◌, false, take, sym, ap, ◌∙◌, inr}
 use Rattle.directory_tree.specs.Components.{is_filled}
 use Rattle.directory_tree.proofs.Basics.{true_is_false}
-use Rattle.path_lookup.proofs.Naming.{has_component}
+use Rattle.path_lookup.proofs.NameParts.{has_component}
 use Rattle.path_lookup.proofs.name.put_component.Goals as goal
 
 pub returns-then-length-eq0-clause-fault : goal.returns-then-length-eq0-clause-fault

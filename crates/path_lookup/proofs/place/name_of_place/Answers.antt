@@ -2,7 +2,7 @@ use Rattle.std.proofs.Common.{◌++◌, ap, ◌∙◌}
 use Rattle.directory_tree.specs.Name.{judged, judged_name, name_of}
 use Rattle.directory_tree.specs.Place.{named_place}
 use Rattle.path_lookup.proofs.PlaceNames.{named_behind, judged_is, judged_more, fault_through}
-use Rattle.path_lookup.proofs.Stepping.{passed_on}
+use Rattle.path_lookup.proofs.WalkSteps.{passed_on}
 use Rattle.path_lookup.proofs.place.name_of_place.Goals as goal
 
 pub returns-in_err-end-clause-fault : goal.returns-in_err-end-clause-fault

@@ -1,6 +1,6 @@
 use Rattle.std.proofs.Common.{◌≡◌, ◌∙◌, sym, ap, arith}
 use Rattle.directory_tree.specs.Walk.{walk}
-use Rattle.path_lookup.proofs.Stepping.{fault_along, passed_on, on_by_link}
+use Rattle.path_lookup.proofs.WalkSteps.{fault_along, passed_on, on_by_link}
 use Rattle.path_lookup.proofs.walk.resolve_named.Goals as goal
 
 pub resolve_from-requires-clause-directory : goal.resolve_from-requires-clause-directory

@@ -4,7 +4,7 @@ use Rattle.directory_tree.specs.Components.{step_of, steps_of}
 use Rattle.directory_tree.specs.Walk.{is_last, resolve}
 use Rattle.directory_tree.specs.Spots.{node_at}
 use Rattle.path_lookup.specs.inner.Steps.{onward_from}
-use Rattle.path_lookup.proofs.Stepping.{fault_along, passed_on, ends_here, after_none, followed}
+use Rattle.path_lookup.proofs.WalkSteps.{fault_along, passed_on, ends_here, after_none, followed}
 use Rattle.path_lookup.proofs.walk.step.Goals as goal
 
 pub returns-in_err-arrival-clause-fault : goal.returns-in_err-arrival-clause-fault

@@ -1,6 +1,6 @@
 use Rattle.std.proofs.Common.{ap, ◌∙◌, sym, inl, inr}
 use Rattle.row_rule.specs.declared.view.WalkerView.{WalkerView}
-use Rattle.path_session.proofs.Seeing.{tree_at, look_sees}
+use Rattle.path_session.proofs.SeenWalks.{tree_at, look_sees}
 use Rattle.path_session.proofs.quick.walk_beside.Goals.{in-Ok-reached, in-Err-reached+in-Refused}
 use Rattle.path_session.proofs.quick.walk_beside.Goals as goal
 

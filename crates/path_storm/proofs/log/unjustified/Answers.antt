@@ -1,5 +1,5 @@
 use Rattle.std.proofs.Common.{arith, refl}
-use Rattle.path_storm.proofs.Counting.{next_holds, next_other}
+use Rattle.path_storm.proofs.Counts.{next_holds, next_other}
 use Rattle.path_storm.proofs.log.unjustified.Goals.{then-not-justifies, else-not-justifies}
 use Rattle.path_storm.proofs.log.unjustified.Goals as goal
 

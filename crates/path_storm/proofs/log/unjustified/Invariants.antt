@@ -1,8 +1,8 @@
 use Rattle.std.proofs.Common.{◌≤◌, map, take}
 use Rattle.mediation.specs.PolicyChanges.{deed_of}
 use Rattle.justification.specs.Justified.{Justified}
-use Rattle.path_storm.specs.Counting.{IsCountOfOthers}
-use Rattle.path_storm.specs.declared.laying.TheConstants.{PROFILE}
+use Rattle.path_storm.specs.Counts.{IsCountOfOthers}
+use Rattle.path_storm.specs.declared.setup.TheConstants.{PROFILE}
 use Rattle.path_storm.proofs.log.unjustified.Given as goal
 
 -- the count of the answers so far that are not justified

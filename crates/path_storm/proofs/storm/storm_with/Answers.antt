@@ -1,6 +1,6 @@
 use Rattle.std.proofs.Common.{◌*◌, ap, ◌∙◌, sym}
 use Rattle.std.proofs.lemmas.Result.{IfOk-weaker}
-use Rattle.path_storm.proofs.Counting.{all_answers, each_answered}
+use Rattle.path_storm.proofs.Counts.{all_answers, each_answered}
 use Rattle.path_storm.proofs.storm.storm_with.Goals as goal
 
 pub returns-clause-answers : goal.returns-clause-answers

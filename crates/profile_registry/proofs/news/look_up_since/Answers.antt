@@ -1,6 +1,6 @@
 use Rattle.std.proofs.Common.{ap}
 use Rattle.profile_registry.specs.declared.known.Known.{Known}
-use Rattle.profile_registry.proofs.Keeping.{turns}
+use Rattle.profile_registry.proofs.KeptRule.{turns}
 use Rattle.profile_registry.proofs.NewsRead.{news_read}
 use Rattle.profile_registry.proofs.news.look_up_since.Goals.{in-Ok-news, in-Err-news}
 use Rattle.profile_registry.proofs.news.look_up_since.Goals as goal

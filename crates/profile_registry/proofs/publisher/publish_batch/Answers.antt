@@ -1,5 +1,5 @@
 use Rattle.std.proofs.Common.{drop}
-use Rattle.profile_registry.proofs.Keeping.{brings}
+use Rattle.profile_registry.proofs.KeptRule.{brings}
 use Rattle.profile_registry.proofs.publisher.publish_batch.Goals as goal
 
 pub publish_as-requires : goal.publish_as-requires

@@ -1,4 +1,4 @@
-use Rattle.profile_registry.proofs.Keeping.{turns}
+use Rattle.profile_registry.proofs.KeptRule.{turns}
 use Rattle.profile_registry.proofs.reader.look_up.Goals as goal
 
 pub enter_as-requires : goal.enter_as-requires

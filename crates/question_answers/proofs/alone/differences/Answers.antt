@@ -8,7 +8,7 @@ use Rattle.question_answers.specs.LeastNames.{AreLeast, AreLeastNames, listed}
 use Rattle.question_answers.specs.declared.least.Wanted.{Wanted}
 use Rattle.question_answers.specs.declared.quantifier.Witnesses.{Witnesses}
 use Rattle.question_answers.specs.inner.Causes.{HasCauses}
-use Rattle.question_answers.specs.inner.Wanting.{IsWantedOf, alone_by}
+use Rattle.question_answers.specs.inner.Wants.{IsWantedOf, alone_by}
 use Rattle.question_answers.proofs.Translations.{each_pair, least_too, wanted_alone}
 use Rattle.question_answers.proofs.alone.differences.Goals as goal
 

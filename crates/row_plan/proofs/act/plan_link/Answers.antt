@@ -7,7 +7,7 @@ use Rattle.tree_row.specs.Slots.{Slot, slot_at}
 use Rattle.row_plan.specs.Leaves.{new_slot}
 use Rattle.row_plan.specs.inner.Acts.{HasRoom}
 use Rattle.row_plan.specs.inner.Entries.{AddsEntry, PlansEntry}
-use Rattle.row_plan.proofs.Enacting.{node_is}
+use Rattle.row_plan.proofs.Enactment.{node_is}
 use Rattle.row_plan.proofs.Encoded.{made}
 use Rattle.row_plan.proofs.act.plan_link.Goals as goal
 

@@ -4,7 +4,7 @@ use Rattle.change_checks.specs.Act.{kind_of_new}
 use Rattle.tree_row.specs.Slots.{Slot}
 use Rattle.row_plan.specs.Leaves.{new_slot}
 use Rattle.row_plan.specs.inner.Entries.{AddsEntry}
-use Rattle.row_plan.proofs.Enacting.{fits_node}
+use Rattle.row_plan.proofs.Enactment.{fits_node}
 use Rattle.row_plan.proofs.Encoded.{made}
 use Rattle.row_plan.proofs.act.plan_make.Goals as goal
 

@@ -5,7 +5,7 @@ use Rattle.row_plan.specs.Leaves.{without_slot, RemovesFromIndex}
 use Rattle.row_plan.specs.inner.Rows.{FreesSlot}
 use Rattle.row_plan.specs.inner.Acts.{IsTreeRead}
 use Rattle.row_plan.specs.inner.Planned.{Finds, MayRemove, PlansRemoval}
-use Rattle.row_plan.proofs.Enacting.{child_used}
+use Rattle.row_plan.proofs.Enactment.{child_used}
 use Rattle.row_plan.proofs.Encoded.{gone, gone_found}
 use Rattle.row_plan.proofs.act.plan_remove.Goals as goal
 

@@ -4,8 +4,8 @@ use Rattle.std.specs.Prelude.{slice_set}
 use Rattle.row_index.proofs.Sizes.{index_most}
 use Rattle.row_plan.specs.Leaves.{with_words}
 use Rattle.row_plan.specs.inner.Rows.{Drafts}
-use Rattle.tree_row.proofs.Packing.{packs}
-use Rattle.row_plan.proofs.Filling.{outside, drafts_more}
+use Rattle.tree_row.proofs.PackedWords.{packs}
+use Rattle.row_plan.proofs.FilledCells.{outside, drafts_more}
 use Rattle.tree_row.specs.Slots.{packed}
 use Rattle.row_plan.proofs.draft.add_text.Goals as goal
 

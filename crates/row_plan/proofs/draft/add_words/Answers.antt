@@ -4,7 +4,7 @@ use Rattle.std.specs.Prelude.{slice_index}
 use Rattle.row_index.proofs.Sizes.{index_most}
 use Rattle.row_plan.specs.Leaves.{with_words}
 use Rattle.row_plan.specs.inner.Rows.{Drafts}
-use Rattle.row_plan.proofs.Filling.{outside, drafts_more}
+use Rattle.row_plan.proofs.FilledCells.{outside, drafts_more}
 use Rattle.row_plan.proofs.draft.add_words.Goals as goal
 
 pub overflow_add-base : goal.overflow_add-base

@@ -3,7 +3,7 @@ use Rattle.std.specs.Prelude.{slice_index, slice_set}
 use Rattle.std.specs.List.{remove}
 use Rattle.row_rule.specs.declared.cell.Cell.{Cell}
 use Rattle.row_plan.specs.inner.Rows.{Drafts}
-use Rattle.row_plan.proofs.Dropping.{drops, drops_none}
+use Rattle.row_plan.proofs.Drops.{drops, drops_none}
 use Rattle.row_plan.proofs.draft.drop_cell.Goals as goal
 
 pub returns-in-Some : goal.returns-in-Some

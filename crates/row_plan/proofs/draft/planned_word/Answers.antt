@@ -1,5 +1,5 @@
 use Rattle.std.proofs.Common.{◌∙◌, sym, subst}
-use Rattle.row_plan.proofs.Dropping.{planned_at, unplanned_at}
+use Rattle.row_plan.proofs.Drops.{planned_at, unplanned_at}
 use Rattle.row_plan.proofs.draft.planned_word.Goals as goal
 
 pub returns-in-Some-clause-word : goal.returns-in-Some-clause-word

@@ -2,7 +2,7 @@ use Rattle.std.proofs.Common.{◌≡◌, length, subst, arith, get_or-set_same}
 use Rattle.std.proofs.lemmas.Result.{on_ok_weaker}
 use Rattle.std.specs.Prelude.{slice_index, slice_set}
 use Rattle.row_plan.specs.inner.Rows.{Drafts}
-use Rattle.row_plan.proofs.Dropping.{set_again, length_drafted}
+use Rattle.row_plan.proofs.Drops.{set_again, length_drafted}
 use Rattle.row_plan.proofs.draft.set_word.Goals as goal
 
 pub returns-clause-ok : goal.returns-clause-ok

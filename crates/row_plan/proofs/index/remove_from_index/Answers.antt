@@ -9,7 +9,7 @@ use Rattle.row_index.specs.Places.{around}
 use Rattle.row_index.specs.Index.{IsFound, Ends}
 use Rattle.row_index.specs.Edits.{index_at, place_after, vacated, Removes}
 use Rattle.tree_row.specs.Rows.{homes_in}
-use Rattle.tree_row.specs.Finding.{InEncoding}
+use Rattle.tree_row.specs.Search.{InEncoding}
 use Rattle.row_plan.specs.Plan.{IsLean}
 use Rattle.row_plan.specs.declared.index.Search.{Search}
 use Rattle.row_plan.specs.inner.Rows.{Drafts}

@@ -12,7 +12,7 @@ use Rattle.rule_explain.proofs.reason.first_hit.Goals as goal
 pub loop-i-init : goal.loop-i-init
 loop-i-init c = none_yet (hits c.args.kind c.args.permission c.args.name.now) (map rule_value c.rules-rule-items.result.now)
 
--- the test of the rule at hand
+-- the test of the current rule
 tested : (test : RuleValue → Bool) (rules : List Rule) (i : ℕ) (rule : Rule) (b : Bool) → i < length rules → rule ≡ get_or rules i rule →
     b ≡ test (rule_value rule) → test (get_or (map rule_value rules) i nothing) ≡ b
 tested test rules i rule b lt is e = ap test (value_at rules i rule lt is) ∙ sym e

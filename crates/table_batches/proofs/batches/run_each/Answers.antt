@@ -1,4 +1,4 @@
--- One name more has its state.
+-- One more name has its state.
 use Rattle.std.proofs.Common.{◌≡◌, ◌+◌, ◌-◌, ◌<◌, ◌∙◌, length, length-set, get_or, ap, arith}
 use Rattle.std.proofs.lemmas.Option.{slice_get_within}
 use Rattle.table_batches.specs.Batches.{look_ups_of_names}

@@ -1,4 +1,4 @@
--- Each name has one byte more.
+-- Each name has one more byte.
 use Rattle.std.proofs.Common.{arith}
 use Rattle.table_batches.proofs.Sides.{led_more}
 use Rattle.table_batches.proofs.batches.side_by_side.Goals as goal

@@ -1,6 +1,6 @@
 -- Each name has gone on, and each byte that it has gone was one of those left.
 use Rattle.std.proofs.Common.{rules, refl, arith}
-use Rattle.table_batches.proofs.Seating.{left_on, seats_on}
+use Rattle.table_batches.proofs.EightSeats.{left_on, seats_on}
 use Rattle.table_batches.proofs.seats.advance.Goals as goal
 
 pub side_by_side-reached-requires-clause-room : goal.side_by_side-reached-requires-clause-room

@@ -1,11 +1,11 @@
--- One name more has come to its end.
+-- One more name has reached its end.
 use Rattle.std.proofs.Common.{◌≡◌, ℕ, ◌+◌, ◌-◌, ◌<◌, ◌∙◌, ap, drop, refl, length-drop, length-set, length-take, get_or, take, arith}
 use Rattle.std.proofs.lemmas.List.Elements.{All-from_get_or}
 use Rattle.names.specs.Bytes.{are_bytes}
 use Rattle.table_batches.specs.inner.Seats.{left_of}
 use Rattle.table_batches.proofs.NameLookUps.{part_bytes, part_flat}
 use Rattle.table_batches.proofs.Sides.{part_long}
-use Rattle.table_batches.proofs.Seating.{done_on, left_next, left_none, left_within, whole_at}
+use Rattle.table_batches.proofs.EightSeats.{done_on, left_next, left_none, left_within, whole_at}
 use Rattle.table_batches.proofs.seats.finish.Goals as goal
 
 pub loop-k-init : goal.loop-k-init

@@ -1,6 +1,6 @@
 -- A name that has ended keeps its state, and the next one takes its seat.
 use Rattle.std.proofs.Common.{◌+◌, ◌<◌, ◌≤◌, ◌∙◌, length, length-set, get_or, arith}
-use Rattle.table_batches.proofs.Seating.{all_taken, done_taken, ended, new_seat, seats_taken}
+use Rattle.table_batches.proofs.EightSeats.{all_taken, done_taken, ended, new_seat, seats_taken}
 use Rattle.table_batches.proofs.seats.refill.Goals as goal
 
 pub loop-seat-preserved : goal.loop-seat-preserved

@@ -5,7 +5,7 @@ use Rattle.names.specs.Bytes.{are_bytes}
 use Rattle.table_batches.specs.Batches.{look_ups_of_names}
 use Rattle.table_batches.specs.inner.Seats.{AreDone, AreUnderWay}
 use Rattle.table_batches.proofs.NameLookUps.{names_flat}
-use Rattle.table_batches.proofs.Seating.{left_first, under_way}
+use Rattle.table_batches.proofs.EightSeats.{left_first, under_way}
 use Rattle.table_batches.proofs.seats.run_seats.Goals as goal
 
 pub advance-requires-clause-seats : goal.advance-requires-clause-seats

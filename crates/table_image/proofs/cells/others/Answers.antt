@@ -1,6 +1,6 @@
--- One range more is there.
+-- One more range is there.
 use Rattle.std.proofs.Common.{◌∙◌, ◌+◌, ◌≤◌, sym, arith}
-use Rattle.automata.specs.Rows.{target_in}
+use Rattle.automaton_rows.specs.Rows.{target_in}
 use Rattle.table_image.proofs.OtherBytes.{all_others, range_more}
 use Rattle.table_image.proofs.cells.others.Goals as goal
 

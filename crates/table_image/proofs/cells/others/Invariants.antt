@@ -1,6 +1,6 @@
 -- The bytes before this one that need a cell are kept, and what follows is left of both rows.
 use Rattle.std.proofs.Common.{◌≡◌, ◌-◌, ◌≤◌, ℕ}
-use Rattle.automata.specs.Rows.{IsRowFrom, target_in}
+use Rattle.automaton_rows.specs.Rows.{IsRowFrom, target_in}
 use Rattle.table_image.proofs.OtherBytes.{OthersBefore}
 use Rattle.table_image.proofs.cells.others.Given as goal
 

@@ -1,4 +1,4 @@
--- One byte more is there.
+-- One more byte is there.
 use Rattle.std.proofs.Common.{◌≤◌, ◌≡◌, ◌≢◌, inl, inr, ⊎_elim, ◌∙◌, ◌<◌, ◌++◌, ◌∷◌, [], ℕ, List, sym, subst, arith, length-set}
 use Rattle.std.specs.List.{Contains}
 use Rattle.std.proofs.lemmas.Bool.{cases_lt}

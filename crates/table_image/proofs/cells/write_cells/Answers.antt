@@ -2,7 +2,7 @@ use Rattle.std.proofs.Common.{◌≡◌, ◌∙◌, ◌+◌, ◌<◌, ◌||◌, 
 use Rattle.std.proofs.Common.{arith}
 use Rattle.std.proofs.Math.ListN.{set}
 use Rattle.std.proofs.lemmas.List.{get_or_default, take_more}
-use Rattle.table_image.specs.inner.Taking.{is_taken}
+use Rattle.table_image.specs.inner.TakenCells.{is_taken}
 use Rattle.table_image.specs.inner.PackSteps.{IsWritten}
 use Rattle.table_image.proofs.WrittenCells.{one_written}
 use Rattle.table_image.proofs.cells.write_cells.Goals as goal

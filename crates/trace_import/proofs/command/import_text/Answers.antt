@@ -1,6 +1,6 @@
 use Rattle.std.proofs.Common.{Err}
-use Rattle.profile_import.specs.Imports.{Imports}
-use Rattle.profile_import.specs.Told.{import_fault_value}
+use Rattle.import_profile.specs.Imports.{Imports}
+use Rattle.import_profile.specs.Told.{import_fault_value}
 use Rattle.trace_import.proofs.Endings.{refused_so}
 use Rattle.trace_import.proofs.command.import_text.Goals as goal
 

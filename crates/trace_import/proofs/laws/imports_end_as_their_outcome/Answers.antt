@@ -1,5 +1,5 @@
 use Rattle.std.proofs.Common.{◌≡◌, ℕ, List, Ok, Err, sym, ap, ◌∙◌}
-use Rattle.profile_import.specs.Imports.{Outcome}
+use Rattle.import_profile.specs.Imports.{Outcome}
 use Rattle.trace_import.specs.Import.{import_output}
 use Rattle.trace_report.specs.Output.{Output}
 use Rattle.trace_report.specs.declared.status.Status.{Status}

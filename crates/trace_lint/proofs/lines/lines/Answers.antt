@@ -1,13 +1,13 @@
--- The line of one part more.
+-- The line of one more part.
 use Rattle.std.proofs.Common.{◌≡◌, ◌∙◌, ◌<◌, ℕ, List, [], Vec, Global, map, get_or, length, ap, sym, arith}
 use Rattle.std.proofs.lemmas.List.{get_or-map, length-map}
 use Rattle.rule_globs.specs.Rules.{RuleValue}
-use Rattle.rule_influence.specs.declared.standing.IdleCase.{IdleCase}
+use Rattle.rule_influence.specs.declared.substitutes.IdleCase.{IdleCase}
 use Rattle.rule_profile.specs.Profile.{profile_value}
 use Rattle.rule_profile.specs.RuleSpans.{profile_spans}
-use Rattle.trace_lint.specs.Linting.{finding_in}
+use Rattle.trace_lint.specs.LintOutput.{finding_in}
 use Rattle.trace_lint.specs.Parts.{case_of}
-use Rattle.trace_lint.specs.declared.finding.Part.{Part}
+use Rattle.trace_lint.specs.declared.findings.Part.{Part}
 use Rattle.trace_lint.specs.inner.Found.{finding_value, found_of}
 use Rattle.trace_lint.proofs.AllFound.{line_all, line_more}
 use Rattle.trace_lint.proofs.lines.lines.Goals as goal

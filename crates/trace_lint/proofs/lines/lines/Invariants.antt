@@ -3,7 +3,7 @@ use Rattle.std.proofs.Common.{◌≡◌, map, take}
 use Rattle.std.specs.List.{flat_map}
 use Rattle.rule_profile.specs.Profile.{profile_value}
 use Rattle.rule_profile.specs.RuleSpans.{profile_spans}
-use Rattle.trace_lint.specs.Linting.{finding_in}
+use Rattle.trace_lint.specs.LintOutput.{finding_in}
 use Rattle.trace_lint.specs.inner.Found.{all_found}
 use Rattle.trace_lint.proofs.lines.lines.Given as goal
 

@@ -1,4 +1,4 @@
--- The parts of one rule more.
+-- The parts of one more rule.
 use Rattle.std.proofs.Common.{◌≡◌, ◌∙◌, ◌<◌, List, arith, sym, ap, get_or, length, refl}
 use Rattle.std.proofs.Math.ListN.{get_or-map}
 use Rattle.std.proofs.lemmas.List.{length-map}

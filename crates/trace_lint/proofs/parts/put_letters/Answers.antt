@@ -1,6 +1,6 @@
--- One letter more decides nothing, or it decides something, or the rule doesn't have it.
+-- One more letter decides nothing, or it decides something, or the rule doesn't have it.
 use Rattle.std.proofs.Common.{◌∙◌, Vec, Global, ap, sym}
-use Rattle.trace_lint.specs.declared.finding.Part.{Part}
+use Rattle.trace_lint.specs.declared.findings.Part.{Part}
 use Rattle.trace_lint.proofs.LetterParts.{all_letters, letter_absent, letter_added, letter_decides}
 use Rattle.trace_lint.proofs.parts.put_letters.Goals.{then-contains+then-decides_none_of+in_ok-put, else-contains}
 use Rattle.trace_lint.proofs.parts.put_letters.Goals.{else-contains-via-then-contains+else-decides_none_of}

@@ -1,6 +1,7 @@
 use Rattle.std.proofs.Common.{subst}
 use Rattle.mediation.specs.History.{History}
 use Rattle.trace_script.specs.RunOutput.{ScriptEndsOver}
+use Rattle.trace_report.specs.Streams.{streams}
 use Rattle.trace_report.proofs.Endings.{text_of}
 use Rattle.trace_program.proofs.Unanswered.{nothing_answered}
 use Rattle.trace_program.proofs.plain.run_plain.Goals as goal
@@ -13,10 +14,7 @@ returns-in-Err g c limit =
 pub returns-in-Ok : goal.returns-in-Ok
 returns-in-Ok g c limit =
     let P : History → Type 0 = λ history. ScriptEndsOver
-    (record {
-      answers_before = g.A.Write.contents c.args.answers.now;
-      answers_after = g.A.Write.contents c.run_script.new.answers;
-      faults_before = g.F.Write.contents c.args.faults.now;
-      faults_after = g.F.Write.contents c.run_script.new.faults;
-    }) (g.R.Read.remaining c.args.input.now) (g.R.Read.remaining c.run_script.new.input) history c.run_script.result in
+    (streams (g.A.Write.contents c.args.answers.now) (g.A.Write.contents c.run_script.new.answers)
+    (g.F.Write.contents c.args.faults.now) (g.F.Write.contents c.run_script.new.faults))
+    (g.R.Read.remaining c.args.input.now) (g.R.Read.remaining c.run_script.new.input) history c.run_script.result in
     (subst P c.in-Ok.ensures c.run_script.ensures).ended limit

@@ -3,7 +3,7 @@ use Rattle.std.proofs.Common.{◌≡◌, ◌∙◌, ℕ, Bool, true, false, List
 use Rattle.std.specs.Prelude.{◌==◌, vec_len}
 use Rattle.names.specs.declared.permissions.Permission.TheVariants.{Read}
 use Rattle.trace_questions.specs.Differences.{AreDifferences, IsCompared, all_differences}
-use Rattle.trace_questions.specs.inner.Differing.{versions_value}
+use Rattle.trace_questions.specs.inner.Differences.{versions_value}
 use Rattle.trace_report.specs.Output.{finding}
 use Rattle.trace_questions.proofs.DifferenceLaws.{AreFirst, both_added, compared_lines, compared_none, compared_same, of_both}
 use Rattle.trace_questions.proofs.changes.changes.Goals as goal

@@ -1,7 +1,7 @@
 -- The lines so far are those of the permissions that the loop has passed.
 use Rattle.std.proofs.Common.{List, Option}
 use Rattle.rule_globs.specs.Tokens.{Token}
-use Rattle.trace_questions.specs.inner.Differing.{AreCompared, versions_value}
+use Rattle.trace_questions.specs.inner.Differences.{AreCompared, versions_value}
 use Rattle.trace_questions.proofs.DifferenceLaws.{AreFirst}
 use Rattle.trace_questions.proofs.changes.changes.Given as goal
 

@@ -6,7 +6,7 @@ use Rattle.rule_globs.specs.Rules.{RuleValue}
 use Rattle.question_answers.specs.Alone.{AreAlone}
 use Rattle.question_answers.specs.LeastNames.{listed}
 use Rattle.trace_questions.specs.Differences.{difference_text}
-use Rattle.trace_questions.specs.inner.Differing.{versions_value}
+use Rattle.trace_questions.specs.inner.Differences.{versions_value}
 use Rattle.trace_questions.proofs.changes.put_change.Goals as goal
 
 pub returns : goal.returns

@@ -1,7 +1,7 @@
 -- One name after another.
 use Rattle.std.proofs.Common.{◌∙◌, ◌++◌, ℕ, List, ap, sym, append-nil}
 use Rattle.trace_questions.specs.Differences.{difference_text}
-use Rattle.trace_questions.specs.inner.Differing.{versions_value}
+use Rattle.trace_questions.specs.inner.Differences.{versions_value}
 use Rattle.trace_questions.proofs.ListedLines.{line_added, lines_all}
 use Rattle.trace_questions.proofs.changes.put_lines.Goals as goal
 

@@ -3,7 +3,7 @@ use Rattle.std.proofs.Common.{◌≡◌, ◌++◌}
 use Rattle.rule_profile.specs.RuleSpans.{profile_spans}
 use Rattle.rule_reader.specs.Spans.{spans_of}
 use Rattle.trace_questions.specs.Differences.{difference_text}
-use Rattle.trace_questions.specs.inner.Differing.{versions_value}
+use Rattle.trace_questions.specs.inner.Differences.{versions_value}
 use Rattle.trace_questions.proofs.ListedLines.{first_lines}
 use Rattle.trace_questions.proofs.changes.put_lines.Given as goal
 

@@ -8,7 +8,7 @@ use Rattle.rule_explain.specs.Reasons.{reason}
 use Rattle.rule_profile.specs.declared.profile.Span.{Span}
 use Rattle.trace_questions.specs.Differences.{ReadText, reason_in, sign}
 use Rattle.trace_questions.specs.Shown.{shown_name}
-use Rattle.trace_questions.specs.inner.Differing.{versions_value}
+use Rattle.trace_questions.specs.inner.Differences.{versions_value}
 use Rattle.trace_questions.proofs.changes.put_text_line.Goals as goal
 
 line_added : (t t1 t2 t3 t4 t5 t6 t7 t8 t9 s n r o s_here n_here r_here o_here : List ℕ) (l l_here : ℕ) →

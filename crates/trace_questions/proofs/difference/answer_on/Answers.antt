@@ -1,6 +1,6 @@
 -- The first fault on the way, or what is found.
 use Rattle.rule_profile.specs.Profile.{profile_value}
-use Rattle.rule_reader.specs.Reading.{outcome_of}
+use Rattle.rule_reader.specs.ReadText.{outcome_of}
 use Rattle.trace_questions.specs.Differences.{IsDiffOutputOf}
 use Rattle.trace_questions.proofs.DiffAnswers.{fault_passed_on, new_refused, of_texts, old_refused}
 use Rattle.trace_questions.proofs.difference.answer_on.Goals as goal

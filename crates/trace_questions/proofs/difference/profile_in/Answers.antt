@@ -1,6 +1,6 @@
 -- A text's faults are reported with its side.
 use Rattle.std.proofs.Common.{◌∙◌, ap, sym, subst}
-use Rattle.rule_reader.specs.Reading.{outcome_of}
+use Rattle.rule_reader.specs.ReadText.{outcome_of}
 use Rattle.trace_questions.specs.declared.sides.SideFault.{SideFault}
 use Rattle.trace_questions.specs.inner.Sides.{side_fault_of}
 use Rattle.trace_questions.proofs.DiffAnswers.{IsTextRefused, unread_in}

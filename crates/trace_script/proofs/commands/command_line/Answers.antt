@@ -1,7 +1,7 @@
 use Rattle.mediation.specs.History.{link_answer}
 use Rattle.trace_script.specs.LineValues.{change_words}
 use Rattle.trace_script.specs.RunOutput.{change_of, change_printed, drop_printed, judged_printed, open_printed}
-use Rattle.trace_script.proofs.Printing.{change_few, composed_few, drop_few, link_few, same_few}
+use Rattle.trace_script.proofs.PrintedLines.{change_few, composed_few, drop_few, link_few, same_few}
 use Rattle.trace_script.proofs.commands.command_line.Goals as goal
 
 pub returns-in-Remove-clause-few : goal.returns-in-Remove-clause-few

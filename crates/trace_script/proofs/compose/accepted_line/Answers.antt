@@ -1,7 +1,7 @@
 use Rattle.std.proofs.Common.{Ok, ◌++◌, codes, decimal}
 use Rattle.trace_script.specs.RunOutput.{change_printed}
-use Rattle.trace_script.proofs.Printing.{accepted}
-use Rattle.trace_script.proofs.Publishing.{composed}
+use Rattle.trace_script.proofs.PrintedLines.{accepted}
+use Rattle.trace_script.proofs.Publication.{composed}
 use Rattle.trace_script.proofs.compose.accepted_line.Goals as goal
 
 pub returns-in-Ok : goal.returns-in-Ok

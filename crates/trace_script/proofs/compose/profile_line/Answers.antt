@@ -2,7 +2,7 @@ use Rattle.std.proofs.Common.{◌≡◌, ◌++◌, Ok, ap, ◌∙◌, refl, code
 use Rattle.rule_profile.specs.Profile.{profile_value}
 use Rattle.trace_report.specs.Output.{line}
 use Rattle.trace_script.specs.RunOutput.{policy_printed}
-use Rattle.trace_script.proofs.Publishing.{composed, published_whole}
+use Rattle.trace_script.proofs.Publication.{composed, published_whole}
 use Rattle.trace_script.proofs.compose.profile_line.Goals as goal
 
 pub returns-in-Ok-clause-line : goal.returns-in-Ok-clause-line

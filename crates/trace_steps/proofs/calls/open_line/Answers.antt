@@ -1,4 +1,4 @@
-use Rattle.event_core.specs.Machine.{Call}
+use Rattle.event_machine.specs.Machine.{Call}
 use Rattle.trace_steps.specs.StepLines.{OpensWhole, not_now, told_text}
 use Rattle.trace_steps.proofs.CallEnds.{opens_not, opens_so, opens_whole}
 use Rattle.trace_steps.proofs.Commands.{has_line}

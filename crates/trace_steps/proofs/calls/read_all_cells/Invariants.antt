@@ -1,5 +1,5 @@
 -- The walk was led on, and the cells that it has not read get fewer.
-use Rattle.trace_steps.specs.inner.Doing.{IsLedOn, cells_unread}
+use Rattle.trace_steps.specs.inner.Actions.{IsLedOn, cells_unread}
 use Rattle.trace_steps.proofs.calls.read_all_cells.Given as goal
 
 abbrev pub invariant-loop-count : goal.invariant-loop-count

@@ -1,6 +1,6 @@
 use Rattle.std.proofs.Common.{◌≡◌}
 use Rattle.trace_steps.specs.StepLines.{none_taken, TakesUpTo}
-use Rattle.event_core.specs.Machine.Event.{read_cell}
+use Rattle.event_machine.specs.Machine.Event.{read_cell}
 use Rattle.trace_steps.proofs.CallEnds.{read_up_to}
 use Rattle.trace_steps.proofs.Commands.{is_done_so}
 use Rattle.trace_steps.proofs.calls.read_cells.Goals as goal

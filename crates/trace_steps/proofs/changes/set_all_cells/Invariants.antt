@@ -1,5 +1,5 @@
 -- Cells were set, and fewer are left.
-use Rattle.trace_steps.specs.inner.Doing.{AreSet, cells_left}
+use Rattle.trace_steps.specs.inner.Actions.{AreSet, cells_left}
 use Rattle.trace_steps.proofs.changes.set_all_cells.Given as goal
 
 abbrev pub invariant-loop : goal.invariant-loop

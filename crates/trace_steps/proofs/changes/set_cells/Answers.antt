@@ -1,5 +1,5 @@
 use Rattle.std.proofs.Common.{◌≡◌}
-use Rattle.event_core.specs.Machine.Event.{set_cell}
+use Rattle.event_machine.specs.Machine.Event.{set_cell}
 use Rattle.trace_steps.specs.StepLines.{TakesUpTo, none_taken}
 use Rattle.trace_steps.proofs.Commands.{is_done_so}
 use Rattle.trace_steps.proofs.changes.set_cells.Goals as goal

@@ -1,7 +1,7 @@
 use Rattle.std.proofs.Common.{◌≡◌, Err, ap, ◌∙◌, rules}
 use Rattle.trace_script.specs.LineValues.{command_value}
 use Rattle.trace_script.specs.RunOutput.{printed}
-use Rattle.trace_test.specs.inner.Testing.{testing}
+use Rattle.trace_test.specs.inner.Tests.{testing}
 use Rattle.trace_test.proofs.lines.ask.Goals as goal
 
 pub returns-in_err-line-clause-done : goal.returns-in_err-line-clause-done

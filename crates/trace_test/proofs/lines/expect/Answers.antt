@@ -1,8 +1,8 @@
 use Rattle.std.proofs.Common.{◌≡◌, true, false, sym, ap, ◌∙◌}
 use Rattle.trace_report.specs.Output.{line}
 use Rattle.trace_test.specs.TestOutput.{Expectation, failure_text, holds}
-use Rattle.trace_test.specs.inner.Testing.{Testing, testing, with_one}
-use Rattle.trace_test.proofs.Expecting.{failed_done, held_done}
+use Rattle.trace_test.specs.inner.Tests.{Testing, testing, with_one}
+use Rattle.trace_test.proofs.Expectations.{failed_done, held_done}
 use Rattle.trace_test.proofs.lines.expect.Goals as goal
 
 pub returns-then-compare-clause-done : goal.returns-then-compare-clause-done

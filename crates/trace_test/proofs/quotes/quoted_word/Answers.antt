@@ -3,7 +3,7 @@ use Rattle.std.specs.List.{position_or_len}
 use Rattle.std.proofs.lemmas.List.{take_rest}
 use Rattle.std.proofs.lemmas.List.Sums.{position_or_len_is}
 use Rattle.trace_test.specs.TestScript.{closed, quoted, with_word, words_from}
-use Rattle.trace_test.specs.inner.Testing.{is_parted}
+use Rattle.trace_test.specs.inner.Tests.{is_parted}
 use Rattle.trace_test.proofs.WordReads.{closed_badly, closed_parted, is_quote, quoted_open, quoted_reads}
 use Rattle.trace_test.proofs.quotes.quoted_word.Goals as goal
 

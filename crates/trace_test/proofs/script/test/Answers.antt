@@ -1,73 +1,87 @@
-use Rattle.std.proofs.Common.{◌≡◌, ℕ, List, Ok, Err, ap, ◌∙◌, subst, rules}
+use Rattle.std.proofs.Common.{◌≡◌, ℕ, List, Ok, Err, ap, ◌∙◌, subst, rules, arith}
 use Rattle.trace_report.specs.Streams.{IsTextOf}
-use Rattle.trace_script.specs.Following.{IsFollowed}
-use Rattle.trace_test.specs.inner.Testing.{Testing, test_engine, testing}
+use Rattle.trace_script.specs.FollowedScripts.{IsFollowed, exactly}
+use Rattle.trace_script.proofs.Exact.{followed_by}
+use Rattle.trace_test.specs.inner.Tests.{Testing, first_testing, test_engine, testing}
 use Rattle.trace_test.proofs.Outcomes.{cut_test, stopped_test, uncounted_test, whole_test}
 use Rattle.trace_test.proofs.script.test.Goals as goal
 
-pub follow-requires-clause-total : goal.follow-requires-clause-total
-follow-requires-clause-total g c = ap (λ (t : Testing). t.total) (c.new-progress.ensures (g.B.Bench.history c.args.bench.now))
+pub follow_script-requires : goal.follow_script-requires
+follow_script-requires g c =
+    omega (arith, c.requires, ap (λ (t : Testing). t.total) (c.new-progress.ensures (g.B.Bench.history c.args.bench.now)))
 
-pub returns-in_err-follow : goal.returns-in_err-follow
-returns-in_err-follow g c limit =
+pub returns-in_err-follow_script : goal.returns-in_err-follow_script
+returns-in_err-follow_script g c limit =
     let history = g.B.Bench.history c.args.bench.now in
-    let now = testing (g.B.Bench.history c.follow.new.bench) c.follow.new.progress in
-    let stop = c.in_err-follow.field-0.0 in
+    let now = testing (g.B.Bench.history c.follow_script.new.on) c.follow_script.new.follower in
+    let stop = c.in_err-follow_script.field-0.0 in
     let told : c.from_residual.result ≡ Err stop = search rules in
     let P : Testing → Type 0 = λ first. (text : List ℕ) × IsTextOf (g.R.Read.remaining c.args.input.now) text
-    × IsFollowed (test_engine limit) {T = Unit {0}} first
-    (g.R.Read.remaining c.args.input.now) (g.R.Read.remaining c.follow.new.input) text now (g.A.Write.contents c.args.answers.now)
-    (g.A.Write.contents c.follow.new.answers) (Err stop) in
-    let followed = subst P (c.new-progress.ensures history) (c.in_err-follow.ensures limit) in
-    rw told (followed.0, followed.1, stopped_test c.args.format limit history _ _ followed.0 now _ _ stop followed.2)
+    × IsFollowed (exactly (test_engine limit)) {T = Unit {0}} first
+    (g.R.Read.remaining c.args.input.now) (g.R.Read.remaining c.follow_script.new.input) text now (g.A.Write.contents c.args.answers.now)
+    (g.A.Write.contents c.follow_script.new.answers) (Err stop) in
+    let ran = subst P (c.new-progress.ensures history) (c.in_err-follow_script.ensures limit) in
+    let by = followed_by (test_engine limit) (first_testing c.args.format history) (g.R.Read.remaining c.args.input.now)
+    (g.R.Read.remaining c.follow_script.new.input) ran.0 now (g.A.Write.contents c.args.answers.now)
+    (g.A.Write.contents c.follow_script.new.answers) {T = Unit {0}} (Err stop) ran.2 in
+    rw told (ran.0, ran.1, stopped_test c.args.format limit history _ _ ran.0 now _ _ stop by)
 
 pub returns-in_err-line : goal.returns-in_err-line
 returns-in_err-line g c limit =
     let history = g.B.Bench.history c.args.bench.now in
-    let now = testing (g.B.Bench.history c.follow.new.bench) c.follow.new.progress in
+    let now = testing (g.B.Bench.history c.follow_script.new.on) c.follow_script.new.follower in
     let stop = c.in_err-line.field-0.0 in
     let told : c.from_residual-in_err-line.result ≡ Err stop = search rules in
     let P : Testing → Type 0 = λ first. (text : List ℕ) × IsTextOf (g.R.Read.remaining c.args.input.now) text
-    × IsFollowed (test_engine limit) {T = Unit {0}} first
-    (g.R.Read.remaining c.args.input.now) (g.R.Read.remaining c.follow.new.input) text now (g.A.Write.contents c.args.answers.now)
-    (g.A.Write.contents c.follow.new.answers) (Ok tt) in
-    let followed = subst P (c.new-progress.ensures history) (c.in_ok-follow.ensures limit) in
+    × IsFollowed (exactly (test_engine limit)) {T = Unit {0}} first
+    (g.R.Read.remaining c.args.input.now) (g.R.Read.remaining c.follow_script.new.input) text now (g.A.Write.contents c.args.answers.now)
+    (g.A.Write.contents c.follow_script.new.answers) (Ok tt) in
+    let ran = subst P (c.new-progress.ensures history) (c.in_ok-follow_script.ensures limit) in
+    let by = followed_by (test_engine limit) (first_testing c.args.format history) (g.R.Read.remaining c.args.input.now)
+    (g.R.Read.remaining c.follow_script.new.input) ran.0 now (g.A.Write.contents c.args.answers.now)
+    (g.A.Write.contents c.follow_script.new.answers) {T = Unit {0}} (Ok tt) ran.2 in
     rw told (
-      followed.0,
-      followed.1,
-      uncounted_test c.args.format limit history _ _ followed.0 now _ _ followed.2 stop
+      ran.0,
+      ran.1,
+      uncounted_test c.args.format limit history _ _ ran.0 now _ _ by stop
           c.in_err-line.ensures,
     )
 
 pub returns-in_err-print_line : goal.returns-in_err-print_line
 returns-in_err-print_line g c limit =
     let history = g.B.Bench.history c.args.bench.now in
-    let now = testing (g.B.Bench.history c.follow.new.bench) c.follow.new.progress in
+    let now = testing (g.B.Bench.history c.follow_script.new.on) c.follow_script.new.follower in
     let stop = c.in_err-print_line.field-0.0 in
     let told : c.from_residual-in_err-print_line.result ≡ Err stop = search rules in
     let P : Testing → Type 0 = λ first. (text : List ℕ) × IsTextOf (g.R.Read.remaining c.args.input.now) text
-    × IsFollowed (test_engine limit) {T = Unit {0}} first
-    (g.R.Read.remaining c.args.input.now) (g.R.Read.remaining c.follow.new.input) text now (g.A.Write.contents c.args.answers.now)
-    (g.A.Write.contents c.follow.new.answers) (Ok tt) in
-    let followed = subst P (c.new-progress.ensures history) (c.in_ok-follow.ensures limit) in
+    × IsFollowed (exactly (test_engine limit)) {T = Unit {0}} first
+    (g.R.Read.remaining c.args.input.now) (g.R.Read.remaining c.follow_script.new.input) text now (g.A.Write.contents c.args.answers.now)
+    (g.A.Write.contents c.follow_script.new.answers) (Ok tt) in
+    let ran = subst P (c.new-progress.ensures history) (c.in_ok-follow_script.ensures limit) in
+    let by = followed_by (test_engine limit) (first_testing c.args.format history) (g.R.Read.remaining c.args.input.now)
+    (g.R.Read.remaining c.follow_script.new.input) ran.0 now (g.A.Write.contents c.args.answers.now)
+    (g.A.Write.contents c.follow_script.new.answers) {T = Unit {0}} (Ok tt) ran.2 in
     let bytes = c.deref.ensures.value ∙ c.in_ok-line.ensures in
-    let cut = cut_test c.args.format limit history _ _ followed.0 now _ _ followed.2 (g.A.Write.contents c.print_line.new.answers)
+    let cut = cut_test c.args.format limit history _ _ ran.0 now _ _ by (g.A.Write.contents c.print_line.new.answers)
     c.deref.result.now
     stop bytes c.in_err-print_line.ensures in
-    rw told (followed.0, followed.1, cut)
+    rw told (ran.0, ran.1, cut)
 
 pub returns : goal.returns
 returns g c limit =
     let history = g.B.Bench.history c.args.bench.now in
-    let now = testing (g.B.Bench.history c.follow.new.bench) c.follow.new.progress in
+    let now = testing (g.B.Bench.history c.follow_script.new.on) c.follow_script.new.follower in
     let P : Testing → Type 0 = λ first. (text : List ℕ) × IsTextOf (g.R.Read.remaining c.args.input.now) text
-    × IsFollowed (test_engine limit) {T = Unit {0}} first
-    (g.R.Read.remaining c.args.input.now) (g.R.Read.remaining c.follow.new.input) text now (g.A.Write.contents c.args.answers.now)
-    (g.A.Write.contents c.follow.new.answers) (Ok tt) in
-    let followed = subst P (c.new-progress.ensures history) (c.in_ok-follow.ensures limit) in
+    × IsFollowed (exactly (test_engine limit)) {T = Unit {0}} first
+    (g.R.Read.remaining c.args.input.now) (g.R.Read.remaining c.follow_script.new.input) text now (g.A.Write.contents c.args.answers.now)
+    (g.A.Write.contents c.follow_script.new.answers) (Ok tt) in
+    let ran = subst P (c.new-progress.ensures history) (c.in_ok-follow_script.ensures limit) in
+    let by = followed_by (test_engine limit) (first_testing c.args.format history) (g.R.Read.remaining c.args.input.now)
+    (g.R.Read.remaining c.follow_script.new.input) ran.0 now (g.A.Write.contents c.args.answers.now)
+    (g.A.Write.contents c.follow_script.new.answers) {T = Unit {0}} (Ok tt) ran.2 in
     let bytes = c.deref.ensures.value ∙ c.in_ok-line.ensures in (
-      followed.0,
-      followed.1,
-      whole_test c.args.format limit history _ _ followed.0 now _ _ followed.2 (g.A.Write.contents c.print_line.new.answers)
+      ran.0,
+      ran.1,
+      whole_test c.args.format limit history _ _ ran.0 now _ _ by (g.A.Write.contents c.print_line.new.answers)
           c.deref.result.now c.status.result c.status.ensures bytes c.in_ok-print_line.ensures,
     )

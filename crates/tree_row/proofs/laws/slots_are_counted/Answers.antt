@@ -1,7 +1,7 @@
 use Rattle.std.proofs.Common.{◌+◌, refl}
 use Rattle.std.proofs.lemmas.Bool.{lt-ltb, le-ltb}
 use Rattle.tree_row.specs.Slots.{slot_at}
-use Rattle.tree_row.proofs.Counting.{room_free, room_full, room_most}
+use Rattle.tree_row.proofs.Counts.{room_free, room_full, room_most}
 use Rattle.tree_row.proofs.laws.slots_are_counted.Goals as goal
 
 pub returns-clause-free : goal.returns-clause-free

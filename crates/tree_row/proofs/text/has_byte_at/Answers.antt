@@ -1,7 +1,7 @@
 use Rattle.std.proofs.Common.{◌≡◌, ℕ, ◌/◌, ◌*◌, ◌%◌, ◌^◌, nat_eq, sym, subst, slice_index}
 use Rattle.std.specs.Int.{byte_at}
 use Rattle.tree_row.specs.Questions.{Tells}
-use Rattle.tree_row.proofs.Packing.{one_byte}
+use Rattle.tree_row.proofs.PackedWords.{one_byte}
 use Rattle.tree_row.proofs.text.has_byte_at.Goals as goal
 
 pub returns : goal.returns

@@ -2,7 +2,7 @@ use Rattle.std.proofs.Common.{◌≡◌, ℕ, ◌+◌, ◌/◌, ◌*◌, ◌%◌
 use Rattle.std.specs.Int.{from_le_bytes, w32}
 use Rattle.tree_row.specs.Questions.{Tells}
 use Rattle.tree_row.specs.inner.Words.{HasFourAt}
-use Rattle.tree_row.proofs.Packing.{four_bytes}
+use Rattle.tree_row.proofs.PackedWords.{four_bytes}
 use Rattle.tree_row.proofs.text.has_four_at.Goals as goal
 
 pub returns : goal.returns

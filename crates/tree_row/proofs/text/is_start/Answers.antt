@@ -1,7 +1,7 @@
 use Rattle.std.proofs.Common.{ℕ, nat_eq, sym, subst, arith}
 use Rattle.tree_row.specs.Questions.{Tells}
 use Rattle.tree_row.specs.inner.Words.{IsStart}
-use Rattle.tree_row.proofs.Packing.{starts, overlapping}
+use Rattle.tree_row.proofs.PackedWords.{starts, overlapping}
 use Rattle.tree_row.proofs.text.is_start.Goals as goal
 
 pub returns-then-count-ge8 : goal.returns-then-count-ge8

@@ -1,4 +1,4 @@
-use Rattle.verdict_cache.proofs.Keeping.{Contains-first, Contains-kept, Contains-found}
+use Rattle.verdict_cache.proofs.KeptEntries.{Contains-first, Contains-kept, Contains-found}
 use Rattle.verdict_cache.proofs.laws.entries_stay.Goals as goal
 
 pub returns-clause-look : goal.returns-clause-look

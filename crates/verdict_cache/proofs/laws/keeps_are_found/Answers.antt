@@ -1,4 +1,4 @@
-use Rattle.verdict_cache.proofs.Keeping.{kept_is_found, others_were_found}
+use Rattle.verdict_cache.proofs.KeptEntries.{kept_is_found, others_were_found}
 use Rattle.verdict_cache.proofs.laws.keeps_are_found.Goals as goal
 
 pub returns-clause-found : goal.returns-clause-found

@@ -1,6 +1,6 @@
 -- The computed names are names of the trails.
 use Rattle.std.proofs.Common.{◌≡◌, ◌<◌, ℕ, List, [], Result, Ok, Err, IfOk, Some, Vec, Global, length, slice_get, sym, subst, arith}
-use Rattle.automaton_search.specs.declared.walking.Trail.{Trail}
+use Rattle.automaton_search.specs.declared.walk.Trail.{Trail}
 use Rattle.automaton_search.specs.inner.Trails.{AreNames, names_from}
 use Rattle.automaton_search.specs.Visits.{VisitsValue}
 use Rattle.automaton_search.proofs.TrailNames.{are_named}

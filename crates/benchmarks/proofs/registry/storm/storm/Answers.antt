@@ -1,5 +1,5 @@
 use denote.Param.Send.{sendable}
-use Rattle.profile_registry.proofs.Sending.{reader_send}
+use Rattle.profile_registry.proofs.ThreadSafety.{reader_send}
 use Rattle.benchmarks.proofs.registry.storm.storm.Goals as goal
 
 pub spawn-requires-send-F : goal.spawn-requires-send-F

@@ -1,6 +1,6 @@
 use Rattle.std.proofs.Common.{subst, sym, ◌∙◌}
 use Rattle.dentry_cache.specs.Models.{Held}
-use Rattle.dentry_cache.specs.inner.Knowing.{IsPlanned}
+use Rattle.dentry_cache.specs.inner.Knowledge.{IsPlanned}
 use Rattle.dentry_cache.proofs.keeper.Keeper.apply.Goals as goal
 
 pub make-requires : goal.make-requires

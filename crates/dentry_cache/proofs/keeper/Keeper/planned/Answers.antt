@@ -1,7 +1,7 @@
 use Rattle.std.proofs.Common.{subst}
 use Rattle.dentry_cache.specs.Models.{Held, Hinders}
-use Rattle.dentry_cache.specs.inner.Knowing.{IsPlanned}
-use Rattle.dentry_cache.proofs.Keeping.{plannable, planned, hindered}
+use Rattle.dentry_cache.specs.inner.Knowledge.{IsPlanned}
+use Rattle.dentry_cache.proofs.KeeperParts.{plannable, planned, hindered}
 use Rattle.dentry_cache.proofs.keeper.Keeper.planned.Goals as goal
 use Rattle.dentry_cache.proofs.keeper.Keeper.planned.Goals.{in-Ok, in-Err}
 

@@ -1,7 +1,7 @@
 use Rattle.std.proofs.Common.{subst, sym, ◌∙◌, inl, inr}
 use Rattle.dentry_cache.specs.Models.{Held, Accepts, Refuses}
-use Rattle.dentry_cache.specs.inner.Knowing.{Countable}
-use Rattle.dentry_cache.proofs.Keeping.{sees_world, accepted_by, refused}
+use Rattle.dentry_cache.specs.inner.Knowledge.{Countable}
+use Rattle.dentry_cache.proofs.KeeperParts.{sees_world, accepted_by, refused}
 use Rattle.dentry_cache.proofs.keeper.Keeper.test.Goals as goal
 use Rattle.dentry_cache.proofs.keeper.Keeper.test.Goals.{in-Ok, in-Err+in-Refused}
 

@@ -1,4 +1,4 @@
-use Rattle.dentry_cache.proofs.Keeping.{kept_of, sees_history}
+use Rattle.dentry_cache.proofs.KeeperParts.{kept_of, sees_history}
 use Rattle.dentry_cache.proofs.kept_row.KeptRow.encodes_history.Goals as goal
 
 pub returns : goal.returns

@@ -1,4 +1,4 @@
-use Rattle.dentry_cache.proofs.Keeping.{knows_next}
+use Rattle.dentry_cache.proofs.KeeperParts.{knows_next}
 use Rattle.dentry_cache.proofs.Tallied.{tally_made}
 use Rattle.dentry_cache.proofs.kept_row.KeptRow.make.Goals as goal
 

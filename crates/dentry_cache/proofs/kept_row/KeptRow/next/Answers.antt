@@ -1,4 +1,4 @@
-use Rattle.dentry_cache.proofs.Keeping.{kept_of, countable, full}
+use Rattle.dentry_cache.proofs.KeeperParts.{kept_of, countable, full}
 use Rattle.dentry_cache.proofs.kept_row.KeptRow.next.Goals as goal
 
 pub returns-then-self-eq-MOST_CHANGES-clause-err : goal.returns-then-self-eq-MOST_CHANGES-clause-err

@@ -1,5 +1,5 @@
 use Rattle.std.proofs.Common.{arith}
-use Rattle.dentry_cache.proofs.Setting.{stopped}
+use Rattle.dentry_cache.proofs.SetCells.{stopped}
 use Rattle.dentry_cache.proofs.kept_row.KeptRow.stop_amid.Goals as goal
 
 pub begin-requires-clause-fewer : goal.begin-requires-clause-fewer

@@ -1,4 +1,4 @@
-use Rattle.dentry_cache.proofs.Keeping.{count_of_version}
+use Rattle.dentry_cache.proofs.KeeperParts.{count_of_version}
 use Rattle.dentry_cache.proofs.kept_row.KeptRow.version.Goals as goal
 
 pub returns-clause-count : goal.returns-clause-count

@@ -2,7 +2,7 @@
 use Rattle.std.proofs.Common.{[], ◌∷◌, ap, sym, subst, refl, arith}
 use Rattle.rule_globs.specs.Glob.{exactly, not_slash}
 use Rattle.rule_globs.specs.Meaning.{meaning, meaning_of, alternatives_meaning}
-use Rattle.glob_automaton.specs.inner.Drawing.{IsDrawn}
+use Rattle.glob_automaton.specs.inner.Drawings.{IsDrawn}
 use Rattle.glob_automaton.specs.declared.chart.Label.TheVariants as label
 use Rattle.glob_automaton.proofs.DrawingLaws.{drawn_empty, drawn_none, drawn_cat, drawn_alt, ready_on}
 use Rattle.glob_automaton.proofs.DrawingItems.{of_byte, of_any_byte, of_group, weight, lighter_item, lighter_alternative, all_left}

@@ -2,7 +2,7 @@
 use Rattle.std.proofs.Common.{◌≡◌, ◌++◌, ◌+◌, ◌*◌, List, Vec, Global}
 use Rattle.rule_globs.specs.Meaning.{meaning, meaning_of, alternatives_meaning}
 use Rattle.rule_globs.specs.declared.items.Item.{Item}
-use Rattle.glob_automaton.specs.inner.Drawing.{IsDrawn}
+use Rattle.glob_automaton.specs.inner.Drawings.{IsDrawn}
 use Rattle.glob_automaton.proofs.DrawingItems.{weight}
 use Rattle.glob_automaton.proofs.chart.Chart.+draw.Given as goal
 

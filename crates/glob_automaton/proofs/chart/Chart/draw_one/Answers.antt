@@ -1,7 +1,7 @@
 -- The place was pushed, and its entry.
 use Rattle.std.proofs.Common.{◌≡◌, ◌++◌, ◌∷◌, [], length, ap, ◌∙◌}
 use Rattle.rule_globs.specs.Glob.{ByteSet, one}
-use Rattle.glob_automaton.specs.inner.Drawing.{IsDrawn, IsKnown, TakesSet}
+use Rattle.glob_automaton.specs.inner.Drawings.{IsDrawn, IsKnown, TakesSet}
 use Rattle.glob_automaton.specs.declared.chart.Entry.TheVariants as entry
 use Rattle.glob_automaton.proofs.DrawingLaws.{drawn_one, if_ok}
 use Rattle.glob_automaton.proofs.chart.Chart.draw_one.Goals as goal

@@ -2,7 +2,7 @@
 use Rattle.std.proofs.Common.{◌≡◌, ◌++◌, ◌∷◌, [], length, ap, ◌∙◌, refl, subst}
 use Rattle.rule_profile.specs.Profile.{rule_value, pattern}
 use Rattle.names.specs.declared.kind.RuleKind.TheVariants.{Allow}
-use Rattle.glob_automaton.specs.inner.Drawing.{IsDrawn}
+use Rattle.glob_automaton.specs.inner.Drawings.{IsDrawn}
 use Rattle.glob_automaton.specs.inner.Leaves.{reading}
 use Rattle.glob_automaton.proofs.ChartRules.{chart_more}
 use Rattle.glob_automaton.proofs.chart.Chart.draw_path.Goals as goal

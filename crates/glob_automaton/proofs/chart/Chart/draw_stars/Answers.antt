@@ -3,7 +3,7 @@ use Rattle.std.proofs.Common.{subst, refl}
 use Rattle.std.proofs.lemmas.Result.{IfOk-weaker}
 use Rattle.rule_globs.specs.Glob.{ByteSet, one, run, not_slash}
 use Rattle.rule_globs.specs.Meaning.{in_stars, stars_glob}
-use Rattle.glob_automaton.specs.inner.Drawing.{IsDrawn, IsKnown, TakesSet}
+use Rattle.glob_automaton.specs.inner.Drawings.{IsDrawn, IsKnown, TakesSet}
 use Rattle.glob_automaton.specs.declared.chart.Label.TheVariants as label
 use Rattle.glob_automaton.proofs.DrawingLaws.{drawn_cat, stars_all, stars_some, strict_stars, free_stars}
 use Rattle.glob_automaton.proofs.chart.Chart.draw_stars.Goals as goal

@@ -2,7 +2,7 @@ use Rattle.std.proofs.Common.{◌≡◌, refl, ℕ, List, [], ◌∷◌, length}
 use Rattle.rule_profile.specs.Profile.{RuleValue, rule_value}
 use Rattle.glob_automaton.specs.declared.chart.Chart.{Chart}
 use Rattle.glob_automaton.specs.declared.chart.ChartRule.{ChartRule}
-use Rattle.glob_automaton.specs.inner.Drawing.{IsChartOf, HasRules}
+use Rattle.glob_automaton.specs.inner.Drawings.{IsChartOf, HasRules}
 use Rattle.glob_automaton.specs.inner.Leaves.{reading}
 use Rattle.glob_automaton.proofs.chart.Chart.of_path.Goals as goal
 

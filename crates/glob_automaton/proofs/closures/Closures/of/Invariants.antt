@@ -1,6 +1,6 @@
 -- The closures of the entries so far.
 use Rattle.std.proofs.Common.{◌≡◌, length}
-use Rattle.glob_automaton.specs.inner.Gathering.{AreClosures}
+use Rattle.glob_automaton.specs.inner.GatheredSets.{AreClosures}
 use Rattle.glob_automaton.specs.inner.PlaceBits.{AreWithin}
 use Rattle.glob_automaton.proofs.closures.Closures.of.Given as goal
 

@@ -4,7 +4,7 @@ use Rattle.std.proofs.lemmas.Option.{none-some, same_Some}
 use Rattle.rule_profile.specs.Profile.{RuleValue, rule_value}
 use Rattle.rule_profile.specs.Readable.{begins_with_slash}
 use Rattle.glob_automaton.specs.Parts.{IsAutomatonOfPart}
-use Rattle.glob_automaton.specs.inner.Drawing.{IsChartOf}
+use Rattle.glob_automaton.specs.inner.Drawings.{IsChartOf}
 use Rattle.glob_automaton.specs.inner.Leaves.{hits_alone, reading, IsWithHits}
 use Rattle.glob_automaton.proofs.BuiltPaths.{one_more_built}
 use Rattle.glob_automaton.proofs.Compiled.{built, not_built}

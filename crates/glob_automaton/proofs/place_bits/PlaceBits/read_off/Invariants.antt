@@ -1,6 +1,6 @@
 -- The places of the words so far are read off.
 use Rattle.std.proofs.Common.{◌≡◌, ◌↔◌, ℕ, ◌*◌, ◌/◌, ◌<◌, true, Contains}
-use Rattle.glob_automaton.specs.inner.Gathering.{IsAscending}
+use Rattle.glob_automaton.specs.inner.GatheredSets.{IsAscending}
 use Rattle.glob_automaton.specs.inner.PlaceBits.{has_place}
 use Rattle.glob_automaton.proofs.place_bits.PlaceBits.read_off.Given as goal
 

@@ -1,7 +1,7 @@
 use Rattle.std.proofs.Common.{arith, List, Result, Ok, Err, map, sym, ap, ◌∙◌}
 use Rattle.std.specs.Prelude.{OnOk}
-use Rattle.profile_variables.specs.Variables.{Variable}
-use Rattle.profile_variables.specs.inner.Known.{place_of}
+use Rattle.apparmor_variables.specs.Variables.{Variable}
+use Rattle.apparmor_variables.specs.inner.Known.{place_of}
 use Rattle.import_scope.specs.Scopes.{with_values}
 use Rattle.import_scope.proofs.VariablePlaces.{place_within, places_stay, values_added, nothing_added}
 use Rattle.import_scope.proofs.assigned.Assignments.add.Goals as goal

@@ -3,9 +3,9 @@ use Rattle.std.specs.Prelude.{bytes_eq}
 use Rattle.std.specs.BTreeMap.{get_by}
 use Rattle.std.specs.Cmp.Lexicographic.{slice_cmp}
 use Rattle.std.specs.Ordering.{nat_cmp}
-use Rattle.profile_variables.specs.Pieces.{Text}
-use Rattle.profile_variables.specs.Variables.{Variable}
-use Rattle.profile_variables.specs.inner.Known.{place_of}
+use Rattle.apparmor_variables.specs.Pieces.{Text}
+use Rattle.apparmor_variables.specs.Variables.{Variable}
+use Rattle.apparmor_variables.specs.inner.Known.{place_of}
 use Rattle.names.proofs.ByteKeys.{updates_bytes}
 use Rattle.import_scope.specs.Scopes.{is_declared}
 use Rattle.import_scope.proofs.VariablePlaces.{place_of_one_more}

@@ -1,14 +1,14 @@
 use Rattle.std.proofs.Common.{ap, Some}
 use Rattle.std.proofs.lemmas.Result.{IfOk-weaker}
 use Rattle.justification.specs.declared.answer.Answer.{Answer}
-use Rattle.event_core.specs.Machine.Event.{answer}
-use Rattle.event_core.specs.Takes.{Takes}
+use Rattle.event_machine.specs.Machine.Event.{answer}
+use Rattle.event_machine.specs.Takes.{Takes}
 use Rattle.open_session.specs.Steps.{Answers}
-use Rattle.session_table.specs.Table.{session_in, StepsIn}
-use Rattle.interleaving_core.specs.inner.Standing.{parts_in}
+use Rattle.interleaving_core.specs.Table.{session_in, StepsIn}
+use Rattle.interleaving_core.specs.inner.Consistency.{parts_in}
 use Rattle.interleaving_core.proofs.Lawful.{no_answer}
 use Rattle.interleaving_core.proofs.Steps.{with_all, answers}
-use Rattle.interleaving_core.proofs.Standing.{Made, told, refused, sessions_answer}
+use Rattle.interleaving_core.proofs.Consistency.{Made, told, refused, sessions_answer}
 use Rattle.interleaving_core.proofs.machine.Core.answer.Goals.{in-Ok, in-Err}
 use Rattle.interleaving_core.proofs.machine.Core.answer.Goals as goal
 

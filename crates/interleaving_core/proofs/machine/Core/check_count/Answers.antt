@@ -1,11 +1,11 @@
 use Rattle.std.proofs.Common.{ℕ, ap, subst}
 use Rattle.std.proofs.lemmas.Result.{on_ok_weaker, on_err_weaker}
-use Rattle.event_core.specs.Machine.Event.{check_count}
-use Rattle.session_table.specs.Table.{session_in}
-use Rattle.interleaving_core.specs.inner.Standing.{parts_in}
+use Rattle.event_machine.specs.Machine.Event.{check_count}
+use Rattle.interleaving_core.specs.Table.{session_in}
+use Rattle.interleaving_core.specs.inner.Consistency.{parts_in}
 use Rattle.interleaving_core.proofs.Lawful.{no_check_count}
 use Rattle.interleaving_core.proofs.Steps.{with_all, checks_count}
-use Rattle.interleaving_core.proofs.Standing.{Made, stepped, sessions_stand, turned_away, never_memory}
+use Rattle.interleaving_core.proofs.Consistency.{Made, stepped, sessions_stand, turned_away, never_memory}
 use Rattle.open_session.specs.Seen.{SeesTree}
 use Rattle.interleaving_core.proofs.machine.Core.check_count.Goals as goal
 

@@ -1,11 +1,11 @@
 use Rattle.std.proofs.Common.{ap, refl}
 use Rattle.std.proofs.lemmas.Result.{on_ok_weaker}
-use Rattle.event_core.specs.Machine.Event.{close_change}
-use Rattle.interleaving_core.specs.inner.Standing.{parts_in}
-use Rattle.event_core.specs.declared.event.StepFault.TheVariants.{NotNow}
+use Rattle.event_machine.specs.Machine.Event.{close_change}
+use Rattle.interleaving_core.specs.inner.Consistency.{parts_in}
+use Rattle.event_machine.specs.declared.event.StepFault.TheVariants.{NotNow}
 use Rattle.interleaving_core.proofs.Lawful.{no_close}
 use Rattle.interleaving_core.proofs.Steps.{with_row, closes_change}
-use Rattle.interleaving_core.proofs.Standing.{Made, done, refused, keeper_stands}
+use Rattle.interleaving_core.proofs.Consistency.{Made, done, refused, keeper_stands}
 use Rattle.interleaving_core.proofs.machine.Core.close_change.Goals.{in-Ok, in-Err}
 use Rattle.interleaving_core.proofs.machine.Core.close_change.Goals as goal
 

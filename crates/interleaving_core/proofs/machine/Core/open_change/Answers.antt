@@ -1,10 +1,10 @@
 use Rattle.std.proofs.Common.{ap}
 use Rattle.std.proofs.lemmas.Result.{on_ok_weaker, on_err_weaker}
-use Rattle.event_core.specs.Machine.Event.{open_change}
-use Rattle.interleaving_core.specs.inner.Standing.{parts_in}
+use Rattle.event_machine.specs.Machine.Event.{open_change}
+use Rattle.interleaving_core.specs.inner.Consistency.{parts_in}
 use Rattle.interleaving_core.proofs.Lawful.{no_open}
 use Rattle.interleaving_core.proofs.Steps.{with_row, opens_change}
-use Rattle.interleaving_core.proofs.Standing.{Made, stepped, keeper_stands, turned_away, never_a_turn}
+use Rattle.interleaving_core.proofs.Consistency.{Made, stepped, keeper_stands, turned_away, never_a_turn}
 use Rattle.interleaving_core.proofs.machine.Core.open_change.Goals as goal
 
 pub invariant_of-self : goal.invariant_of-self

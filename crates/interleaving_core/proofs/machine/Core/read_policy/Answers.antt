@@ -1,11 +1,11 @@
 use Rattle.std.proofs.Common.{ap}
 use Rattle.std.proofs.lemmas.Result.{on_ok_weaker, on_err_weaker}
-use Rattle.event_core.specs.Machine.Event.{read_policy}
-use Rattle.session_table.specs.Table.{session_in}
-use Rattle.interleaving_core.specs.inner.Standing.{parts_in}
+use Rattle.event_machine.specs.Machine.Event.{read_policy}
+use Rattle.interleaving_core.specs.Table.{session_in}
+use Rattle.interleaving_core.specs.inner.Consistency.{parts_in}
 use Rattle.interleaving_core.proofs.Lawful.{no_read_policy}
 use Rattle.interleaving_core.proofs.Steps.{with_all, reads_policy}
-use Rattle.interleaving_core.proofs.Standing.{Made, stepped, sessions_stand, turned_away}
+use Rattle.interleaving_core.proofs.Consistency.{Made, stepped, sessions_stand, turned_away}
 use Rattle.interleaving_core.proofs.machine.Core.read_policy.Goals as goal
 
 pub invariant_of-self : goal.invariant_of-self

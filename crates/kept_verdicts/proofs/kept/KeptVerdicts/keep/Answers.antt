@@ -1,8 +1,8 @@
 use Rattle.std.proofs.Common.{◌≡◌, List, Contains, subst, rules}
 use mathlib.Core.Logic.{◌⊎◌}
-use Rattle.verdict_cache.specs.Asking.{asked_of}
+use Rattle.verdict_cache.specs.StructQuestions.{asked_of}
 use Rattle.verdict_cache.specs.Questions.{Asked, Kept}
-use Rattle.kept_verdicts.specs.Keeping.{kept_of}
+use Rattle.kept_verdicts.specs.KeptFiles.{kept_of}
 use Rattle.kept_verdicts.proofs.Entries.{before_keep}
 use Rattle.kept_verdicts.proofs.kept.KeptVerdicts.keep.Goals as goal
 

@@ -1,5 +1,5 @@
 use Rattle.std.proofs.Common.{◌≡◌, List, Contains, subst, rules}
-use Rattle.verdict_cache.specs.Asking.{asked_of}
+use Rattle.verdict_cache.specs.StructQuestions.{asked_of}
 use Rattle.verdict_cache.specs.Questions.{Asked, Kept}
 use Rattle.kept_verdicts.proofs.Entries.{before_look}
 use Rattle.kept_verdicts.proofs.kept.KeptVerdicts.look.Goals as goal

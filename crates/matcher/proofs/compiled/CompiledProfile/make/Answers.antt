@@ -1,6 +1,6 @@
 use Rattle.std.proofs.Common.{sym, subst}
 use Rattle.matcher.proofs.FaultlessTables.{no_first_fault}
-use Rattle.matcher.specs.Telling.{IsTableOfRules}
+use Rattle.matcher.specs.TableVerdicts.{IsTableOfRules}
 use Rattle.rule_profile.specs.Profile.{profile_value}
 use Rattle.matcher.proofs.compiled.CompiledProfile.make.Goals as goal
 

@@ -1,5 +1,5 @@
 use Rattle.std.proofs.Common.{◌%◌, ◌≡◌, arith}
-use Rattle.open_session.specs.inner.Standing.{call_of, walker_of}
+use Rattle.open_session.specs.inner.StageData.{call_of, walker_of}
 use Rattle.open_session.proofs.Tellings.{still_decides}
 use Rattle.open_session.proofs.walk.Checked.told_of.Goals as goal
 

@@ -3,10 +3,10 @@ use Rattle.std.specs.Option.{unwrap_or}
 use Rattle.justification.specs.Versions.{IsTreeAt}
 use Rattle.mediation.specs.Deeds.{policy_after}
 use Rattle.mediation.specs.Judge.{verdict_by}
-use Rattle.mediation.specs.Judging.{reached_of}
+use Rattle.mediation.specs.Judgments.{reached_of}
 use Rattle.mediation.specs.PolicyChanges.{judge_shared}
 use Rattle.verdict_cache.specs.Questions.{Kept}
-use Rattle.path_session.specs.inner.Knowing.{no_walk}
+use Rattle.path_session.specs.inner.Knowledge.{no_walk}
 use Rattle.path_session.specs.inner.Right.{IsRightFor}
 use Rattle.path_session.proofs.KeptRight.{one_more, judged_right}
 use Rattle.path_session.proofs.knowledge.Knowledge.judge.Goals as goal

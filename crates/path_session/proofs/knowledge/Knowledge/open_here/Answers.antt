@@ -4,11 +4,11 @@ use mathlib.Core.List.{IsPrefix}
 use Rattle.dentry_cache.specs.Models.{Held}
 use Rattle.directory_tree.specs.declared.change.Change.{Change}
 use Rattle.directory_tree.specs.Plain.{tree_of}
-use Rattle.mediation.specs.Opening.{reached}
+use Rattle.mediation.specs.Opens.{reached}
 use Rattle.profile_registry.proofs.Prefixes.{prefix_self}
-use Rattle.path_session.specs.inner.Knowing.{no_walk, asked_by}
-use Rattle.kept_verdicts.specs.Keeping.{kept_of}
-use Rattle.path_session.specs.Standing.{plain_of}
+use Rattle.path_session.specs.inner.Knowledge.{no_walk, asked_by}
+use Rattle.kept_verdicts.specs.KeptFiles.{kept_of}
+use Rattle.path_session.specs.KeeperStates.{plain_of}
 use Rattle.path_session.specs.inner.Right.{IsRightFor}
 use Rattle.path_session.proofs.KeptRight.{all_later, found_right}
 use Rattle.path_session.proofs.knowledge.Knowledge.open_here.Goals as goal

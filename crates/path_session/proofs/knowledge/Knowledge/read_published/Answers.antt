@@ -1,7 +1,7 @@
 use Rattle.std.proofs.Common.{◌≡◌, ◌∙◌, false, sym, ap, subst, rules}
 use Rattle.std.specs.Prelude.{is_some}
 use mathlib.Core.List.{IsPrefix}
-use Rattle.path_session.specs.inner.Sharing.{IsInStep}
+use Rattle.path_session.specs.inner.Shares.{IsInStep}
 use Rattle.path_session.proofs.KeptRight.{right_published}
 use Rattle.path_session.proofs.knowledge.Knowledge.read_published.Goals as goal
 

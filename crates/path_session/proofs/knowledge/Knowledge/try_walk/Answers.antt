@@ -5,7 +5,7 @@ use mathlib.Core.List.{IsPrefix}
 use Rattle.dentry_cache.specs.Walks.{Walk}
 use Rattle.directory_tree.specs.declared.change.Change.{Change}
 use Rattle.profile_registry.proofs.Prefixes.{prefix_self}
-use Rattle.path_session.specs.inner.Knowing.{no_walk, asked_by}
+use Rattle.path_session.specs.inner.Knowledge.{no_walk, asked_by}
 use Rattle.row_rule.specs.declared.view.WalkerView.{WalkerView}
 use Rattle.verdict_cache.specs.Questions.{Kept}
 use Rattle.path_session.specs.inner.Attempts.{HasTried}

@@ -1,7 +1,7 @@
 use Rattle.std.proofs.Common.{take, length, ap, arith, length-append}
-use Rattle.path_storm.proofs.Counting.{answers_more, one_session, by_followed}
-use Rattle.path_storm.specs.Counting.{answers_of}
-use Rattle.path_storm.specs.declared.laying.TheConstants.{FILE, PROFILE}
+use Rattle.path_storm.proofs.Counts.{answers_more, one_session, by_followed}
+use Rattle.path_storm.specs.Counts.{answers_of}
+use Rattle.path_storm.specs.declared.setup.TheConstants.{FILE, PROFILE}
 use Rattle.path_storm.proofs.log.StormLog.report.Goals as goal
 
 pub loop-own-preserved : goal.loop-own-preserved

@@ -1,8 +1,8 @@
 use Rattle.std.proofs.Common.{◌≡◌, length, map, take}
 use Rattle.mediation.specs.PolicyChanges.{deed_of}
 use Rattle.justification.specs.Justified.{Justified}
-use Rattle.path_storm.specs.Counting.{answers_of, IsCountOfOthers}
-use Rattle.path_storm.specs.declared.laying.TheConstants.{FILE, PROFILE}
+use Rattle.path_storm.specs.Counts.{answers_of, IsCountOfOthers}
+use Rattle.path_storm.specs.declared.setup.TheConstants.{FILE, PROFILE}
 use Rattle.path_storm.proofs.log.StormLog.report.Given as goal
 
 -- the report is right for the sessions so far

@@ -1,9 +1,16 @@
-use Rattle.std.proofs.Common.{◌+◌, refl}
+use Rattle.std.proofs.Common.{◌+◌, ◌<◌, length, arith, refl, sym, subst}
 use Rattle.directory_tree.specs.Apply.{entry}
+use Rattle.directory_tree.specs.Plain.{Plain, tree_of}
 use Rattle.plain_tree.specs.contracts.plain.PlainTree.{the_view}
 use Rattle.plain_tree.proofs.Carried.{holds_entered, on_ok}
 use Rattle.plain_tree.proofs.Held.{accepted_step}
 use Rattle.plain_tree.proofs.plain.PlainTree.add.Goals as goal
+
+pub overflow_add-self : goal.overflow_add-self
+overflow_add-self c =
+    let room : length (tree_of (the_view c.self.inside)).entries < c.self.inside.capacity =
+    subst (λ (p : Plain). length (tree_of p).entries < p.capacity) (sym c.self.view_is) c.requires.room in
+    record { fits = omega (arith, room, c.self.invariant.entries, c.self.invariant.capacity_fits) }
 
 pub invariant_of-self-2 : goal.invariant_of-self-2
 invariant_of-self-2 c =

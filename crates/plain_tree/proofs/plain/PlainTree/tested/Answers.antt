@@ -1,5 +1,5 @@
 use Rattle.std.proofs.Common.{◌<◌, length, refl, subst, arith}
-use Rattle.directory_tree.specs.Apply.{max_changes}
+use Rattle.directory_tree.specs.Apply.{most_changes}
 use Rattle.directory_tree.specs.Plain.{Plain, tree_of}
 use Rattle.change_checks.specs.Act.{IsTested}
 use Rattle.plain_tree.specs.PlainEntry.{means_in}
@@ -11,8 +11,8 @@ unreachable-requires c = never_torn c.check_change.new.look _ c.in-Err-Torn.fiel
 
 pub returns-in-Ok-clause-acts : goal.returns-in-Ok-clause-acts
 returns-in-Ok-clause-acts c =
-    let few : length c.args.self.now.history < max_changes = subst (λ (x : Plain). length x.history < max_changes) c.self.view_is
-    (omega (arith, c.self.invariant.version, c.if-self-ge-MAX_CHANGES.false)) in
+    let few : length c.args.self.now.history < most_changes = subst (λ (x : Plain). length x.history < most_changes) c.self.view_is
+    (omega (arith, c.self.invariant.version, c.if-self-ge-MOST_CHANGES.false)) in
     counted_ok c.check_change.new.look c.args.self.now c.args.change.now c.in-Ok.act c.in-Ok.ensures.kept few
     (c.in-Ok.ensures.acts (world_of c.check_change.new.look) refl)
 
@@ -23,8 +23,8 @@ returns-in-Ok-clause-tested c =
 
 pub returns-in-Err-Refused-clause-err : goal.returns-in-Err-Refused-clause-err
 returns-in-Err-Refused-clause-err c =
-    let few : length c.args.self.now.history < max_changes = subst (λ (x : Plain). length x.history < max_changes) c.self.view_is
-    (omega (arith, c.self.invariant.version, c.if-self-ge-MAX_CHANGES.false)) in
+    let few : length c.args.self.now.history < most_changes = subst (λ (x : Plain). length x.history < most_changes) c.self.view_is
+    (omega (arith, c.self.invariant.version, c.if-self-ge-MOST_CHANGES.false)) in
     counted_err c.check_change.new.look c.args.self.now c.args.change.now c.in-Err-Refused.errno c.in-Err-Refused.ensures.kept few
     (told c.check_change.new.look _ c.in-Err-Refused.field-0 c.in-Err-Refused.errno c.in-Err-Refused.field-0-is
     c.in-Err-Refused.ensures.fault)

@@ -1,11 +1,11 @@
 -- A fault of the search is one of the question, and its visits are those of the rules that are compared.
 use Rattle.std.proofs.Common.{◌≡◌, subst}
-use Rattle.automata.specs.Automata.{Automaton}
+use Rattle.automaton_rows.specs.Automata.{Automaton}
 use Rattle.automaton_search.specs.Visits.{AreAllVisits, VisitsValue}
 use Rattle.glob_automaton.specs.Automata.{IsAutomatonOf}
 use Rattle.profile_questions.specs.Faults.{of_search}
 use Rattle.profile_questions.specs.Names.{CompiledValue}
-use Rattle.profile_questions.specs.inner.Comparing.{IsComparison}
+use Rattle.profile_questions.specs.inner.Comparisons.{IsComparison}
 use Rattle.profile_questions.proofs.ReachedNames.{no_fault, passed_on, search_fault}
 use Rattle.profile_questions.proofs.comparison.Comparison.of.Goals as goal
 

@@ -1,6 +1,6 @@
 -- The records of the visit's states are the least hits of its name.
 use Rattle.std.proofs.Common.{◌≡◌, ℕ, List, Some, slice_get, sym, ap, ◌∙◌, subst}
-use Rattle.automata.specs.Automata.{Automaton}
+use Rattle.automaton_rows.specs.Automata.{Automaton}
 use Rattle.profile_questions.specs.declared.comparison.Records.{Records}
 use Rattle.profile_questions.specs.Names.{AreLeastHits, ComparisonValue}
 use Rattle.profile_questions.proofs.Representatives.{least_hits}

@@ -3,7 +3,7 @@ use Rattle.std.proofs.Common.{◌≡◌, ◌∙◌, ⊎_elim, ◌+◌, ◌≤◌
 use Rattle.std.proofs.Common.{length, slice_get, slice_index_or, sym, ap, subst, arith}
 use Rattle.std.proofs.lemmas.Bool.{cases_lt}
 use Rattle.std.proofs.lemmas.Option.{none-some, same_Some, slice_get_within, slice_get-get_or}
-use Rattle.automata.specs.Automata.{Automaton}
+use Rattle.automaton_rows.specs.Automata.{Automaton}
 use Rattle.automaton_search.specs.declared.states.States.{States}
 use Rattle.automaton_search.specs.Visits.{VisitsValue}
 use Rattle.profile_questions.specs.declared.answer.Answer.{Answer}

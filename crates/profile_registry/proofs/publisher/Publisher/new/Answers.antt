@@ -1,4 +1,4 @@
-use Rattle.profile_registry.proofs.Keeping.{starts}
+use Rattle.profile_registry.proofs.KeptRule.{starts}
 use Rattle.profile_registry.proofs.publisher.Publisher.new.Goals as goal
 
 pub new-requires-3-clause-rule : goal.new-requires-3-clause-rule

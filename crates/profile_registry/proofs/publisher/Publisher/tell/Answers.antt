@@ -1,4 +1,4 @@
-use Rattle.profile_registry.proofs.Keeping.{admits, forks, merges}
+use Rattle.profile_registry.proofs.KeptRule.{admits, forks, merges}
 use Rattle.profile_registry.proofs.publisher.Publisher.tell.Goals as goal
 
 pub reader-requires : goal.reader-requires

@@ -1,5 +1,5 @@
 use Rattle.profile_registry.specs.inner.Contents.{contents_of, with_profiles}
-use Rattle.profile_registry.proofs.Storing.{after_removal}
+use Rattle.profile_registry.proofs.StoreLookUps.{after_removal}
 use Rattle.profile_registry.proofs.store.Store.clear.Goals as goal
 
 pub returns : goal.returns

@@ -2,7 +2,7 @@ use Rattle.std.proofs.Common.{◌∙◌}
 use Rattle.std.specs.FinMap.{insert}
 use Rattle.mediation.specs.Profiles.{judge_of}
 use Rattle.profile_registry.specs.inner.Contents.{contents_of, with_profiles}
-use Rattle.profile_registry.proofs.Storing.{after_put}
+use Rattle.profile_registry.proofs.StoreLookUps.{after_put}
 use Rattle.profile_registry.proofs.store.Store.put.Goals as goal
 
 pub returns-clause-ok : goal.returns-clause-ok

@@ -1,5 +1,5 @@
 use Rattle.std.proofs.Common.{◌+◌, arith}
-use Rattle.row_tally.proofs.Opening.{first_counted, first_follows}
+use Rattle.row_tally.proofs.InitialTally.{first_counted, first_follows}
 use Rattle.row_tally.proofs.tally.RowTally.new.Goals as goal
 
 pub invariant_of-result : goal.invariant_of-result

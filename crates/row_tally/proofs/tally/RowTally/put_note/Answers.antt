@@ -4,7 +4,7 @@ use Rattle.std.proofs.lemmas.List.{get_or_read}
 use Rattle.std.proofs.lemmas.Bool.Decides.{Decides-eqb}
 use Rattle.row_tally.proofs.Entries.{entries_few}
 use Rattle.row_tally.proofs.Summaries.{written}
-use Rattle.row_tally.proofs.Noting.{AreCounted-noted}
+use Rattle.row_tally.proofs.Notes.{AreCounted-noted}
 use Rattle.row_tally.proofs.tally.RowTally.put_note.Goals as goal
 
 pub add_entry-requires : goal.add_entry-requires

@@ -1,6 +1,6 @@
 use Rattle.std.proofs.Common.{◌∙◌, ◌+◌, ◌||◌, take, sym, ap, arith}
 use Rattle.std.proofs.lemmas.List.{take_all}
-use Rattle.table_image.specs.inner.Taking.{is_bit, is_taken, is_blocked}
+use Rattle.table_image.specs.inner.TakenCells.{is_bit, is_taken, is_blocked}
 use Rattle.table_image.proofs.TakenCells.{blocked_more}
 use Rattle.table_image.proofs.WordBits.{bits_or, bits_zero}
 use Rattle.table_image.proofs.taken.Taken.blocked.Goals as goal

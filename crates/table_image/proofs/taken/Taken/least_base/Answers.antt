@@ -1,6 +1,6 @@
--- The least free base is in this window, or behind it.
+-- The least free base is in this window, or after it.
 use Rattle.std.proofs.Common.{◌≡◌, ◌∙◌, ◌<◌, ℕ, true, false, sym, subst, arith}
-use Rattle.table_image.specs.inner.Taking.{is_bit}
+use Rattle.table_image.specs.inner.TakenCells.{is_bit}
 use Rattle.table_image.proofs.WordBits.{bits_all, first_unset}
 use Rattle.table_image.proofs.TakenCells.{free_past_words, none_before}
 use Rattle.table_image.proofs.taken.Taken.least_base.Goals as goal

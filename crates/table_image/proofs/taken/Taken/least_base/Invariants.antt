@@ -1,6 +1,6 @@
 -- No base before this one is free.
 use Rattle.std.proofs.Common.{◌≡◌, ◌-◌, ◌*◌, ◌^◌, ◌<◌, ◌≤◌, ℕ, true, length}
-use Rattle.table_image.specs.inner.Taking.{is_blocked}
+use Rattle.table_image.specs.inner.TakenCells.{is_blocked}
 use Rattle.table_image.proofs.taken.Taken.least_base.Given as goal
 
 abbrev pub invariant-loop-base : goal.invariant-loop-base

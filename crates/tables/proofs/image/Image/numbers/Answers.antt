@@ -3,7 +3,7 @@ use Rattle.std.proofs.Common.{◌-◌, ap, drop, length, length-drop, ◌∙◌,
 use Rattle.std.proofs.lemmas.List.{take_all}
 use Rattle.tables.specs.Parts.{numbers_of}
 use Rattle.tables.specs.inner.Places.{start_of}
-use Rattle.tables.specs.inner.Reading.{words_at}
+use Rattle.tables.specs.inner.ReadTables.{words_at}
 use Rattle.tables.proofs.Places.{numbers_there}
 use Rattle.tables.proofs.image.Image.numbers.Goals as goal
 

@@ -2,7 +2,7 @@ use Rattle.std.proofs.Common.{◌≡◌, ℕ, List, subst}
 use Rattle.std.specs.Prelude.{◌⊎◌}
 use Rattle.std.specs.Option.{option_or}
 use Rattle.tree_row.specs.Known.{known_at}
-use Rattle.tree_row.proofs.Merging.{known_both, known_either}
+use Rattle.tree_row.proofs.Merges.{known_both, known_either}
 use Rattle.tree_row.proofs.known.KnownWords.append.Goals as goal
 
 pub returns-in_err-append-clause-either : goal.returns-in_err-append-clause-either

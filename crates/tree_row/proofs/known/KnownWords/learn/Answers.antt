@@ -1,6 +1,6 @@
 use Rattle.std.proofs.Common.{ℕ, List, sym, ap, ◌∙◌}
 use Rattle.tree_row.specs.Known.{known_at}
-use Rattle.tree_row.proofs.Knowing.{other_place}
+use Rattle.tree_row.proofs.Knowledge.{other_place}
 use Rattle.tree_row.proofs.known.KnownWords.learn.Goals as goal
 
 pub returns-clause-learns : goal.returns-clause-learns

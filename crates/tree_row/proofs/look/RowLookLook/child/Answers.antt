@@ -1,7 +1,7 @@
 use Rattle.std.proofs.Common.{◌≡◌, ◌+◌, ◌<◌, ℕ, List, sym, ap, subst, rules}
 use mathlib.Core.Logic.{◌⊎◌, inl, inr}
 use Rattle.path_lookup.specs.World.{World}
-use Rattle.tree_row.specs.Finding.{TellsFound, EncodesNone}
+use Rattle.tree_row.specs.Search.{TellsFound, EncodesNone}
 use Rattle.tree_row.specs.Worlds.{SeesBy}
 use Rattle.tree_row.proofs.SeenSlots.{known_after, found_known, found_seen, missing_seen, none_seen}
 use Rattle.tree_row.proofs.look.RowLookLook.child.Goals as goal

@@ -1,8 +1,8 @@
 use Rattle.std.proofs.Common.{ap, sym, ◌∙◌}
 use Rattle.std.specs.Prelude.{slice_get}
-use Rattle.verdict_cache.specs.Asking.{asked_of}
+use Rattle.verdict_cache.specs.StructQuestions.{asked_of}
 use Rattle.verdict_cache.specs.Questions.{Verdicts}
-use Rattle.verdict_cache.proofs.Keeping.{first_is_found}
+use Rattle.verdict_cache.proofs.KeptEntries.{first_is_found}
 use Rattle.verdict_cache.proofs.cache.VerdictCache.look.Goals as goal
 
 pub returns-then-is_of-clause-used : goal.returns-then-is_of-clause-used

@@ -1,5 +1,5 @@
 use Rattle.std.proofs.Common.{sym, ◌∙◌}
-use Rattle.verdict_cache.specs.Asking.{asked_of}
+use Rattle.verdict_cache.specs.StructQuestions.{asked_of}
 use Rattle.verdict_cache.specs.inner.SameQuestions.{equal_questions}
 use Rattle.verdict_cache.proofs.key.Key.set_unless_same.Goals as goal
 

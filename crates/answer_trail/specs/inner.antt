@@ -1,2 +1,0 @@
--- Words of private contracts and proofs alone.
-pub mod Ends

@@ -1,0 +1,13 @@
+pub mod Priorities
+pub mod RuleWords
+pub mod RuleParts
+pub mod Whats
+pub mod ShownTexts
+pub mod Subjects
+pub mod SubjectRules
+pub mod SecondJudge
+pub mod Restatement
+pub mod Changes
+pub mod EffectText
+pub mod Causes
+pub mod Lists

@@ -1,0 +1,5 @@
+use Rattle.apparmor_variables.proofs.PieceLaws.{written_again}
+use Rattle.apparmor_variables.proofs.laws.texts_are_their_pieces.Goals as goal
+
+pub returns : goal.returns
+returns c = written_again 0

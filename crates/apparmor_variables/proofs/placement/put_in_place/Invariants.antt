@@ -1,0 +1,16 @@
+-- The text followed by what the rest becomes is the whole, if there is a whole.
+use Rattle.std.proofs.Common.{◌≡◌, ◌≤◌, length}
+use Rattle.apparmor_variables.specs.Pieces.{pieces}
+use Rattle.apparmor_variables.specs.PathTexts.{text_of, path_text}
+use Rattle.apparmor_variables.specs.Variables.{most_bytes}
+use Rattle.apparmor_variables.specs.inner.Known.{known_in}
+use Rattle.apparmor_variables.proofs.placement.put_in_place.Given as goal
+
+abbrev pub invariant-loop-piece : goal.invariant-loop-piece
+invariant-loop-piece l = record {
+  whole : text_of (known_in l.declared l.made) l.text.items (pieces l.rest) ≡ path_text (known_in l.declared l.made) l.path;
+  short : length l.text.items ≤ most_bytes;
+}
+
+abbrev pub decreases-loop-piece : goal.decreases-loop-piece
+decreases-loop-piece l = length l.rest

@@ -1,0 +1,5 @@
+pub mod CodePieces
+pub mod AddedBytes
+pub mod Gives
+pub mod Known
+pub mod Way

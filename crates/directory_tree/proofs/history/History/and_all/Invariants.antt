@@ -1,0 +1,6 @@
+-- the events of the history, and these
+use Rattle.std.proofs.Common.{◌++◌}
+use Rattle.directory_tree.proofs.history.History.and_all.Given as goal
+
+abbrev pub ghost-of : goal.ghost-of
+ghost-of g a = a._first.now.events ++ a._second.now.now

@@ -1,5 +1,0 @@
-use Rattle.event_core.proofs.Rightly.{all_right}
-use Rattle.event_core.proofs.laws.answers_are_right.Goals as goal
-
-pub returns : goal.returns
-returns c = all_right

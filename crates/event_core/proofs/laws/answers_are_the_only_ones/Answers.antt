@@ -1,5 +1,0 @@
-use Rattle.event_core.proofs.Once.{answered_once}
-use Rattle.event_core.proofs.laws.answers_are_the_only_ones.Goals as goal
-
-pub returns : goal.returns
-returns c = answered_once

@@ -1,8 +1,0 @@
-use Rattle.std.proofs.Common.{refl, []}
-use Rattle.event_core.specs.Machine.{first}
-use Rattle.event_core.proofs.Told.{told_right}
-use Rattle.event_core.proofs.laws.listed_answers_are_right.Goals as goal
-
-pub returns : goal.returns
-returns c capacity events answers before after m s told legal is = told_right capacity [] [] (first capacity) events answers before after m
-    s told (refl, refl) legal is

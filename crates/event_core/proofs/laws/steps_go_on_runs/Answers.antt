@@ -1,6 +1,0 @@
-use Rattle.event_core.specs.Machine.{first}
-use Rattle.event_core.proofs.Runs.{runs_on}
-use Rattle.event_core.proofs.laws.steps_go_on_runs.Goals as goal
-
-pub returns : goal.returns
-returns c = λ capacity events later answers more m to legal runs. runs_on (first capacity) events later answers more m to legal runs

@@ -1,0 +1,10 @@
+pub mod Machine
+pub mod WalkSteps
+pub mod Takes
+pub mod Runs
+pub mod Rule
+pub mod Right
+pub mod Deeds
+pub mod Examples
+pub mod Lawful
+pub mod Coded

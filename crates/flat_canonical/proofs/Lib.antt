@@ -1,6 +1,0 @@
-pub mod QuotedWords
-pub mod LettersRead
-pub mod PartsRead
-pub mod RulesRead
-pub mod HeadRead
-pub mod ItemsRead

@@ -1,3 +1,0 @@
-pub mod Priorities
-pub mod RuleWords
-pub mod RuleParts

@@ -1,0 +1,6 @@
+//! Tests of `justification` and `path_storm`.
+mod fixtures;
+mod logs;
+mod storms;
+mod together;
+mod trails;

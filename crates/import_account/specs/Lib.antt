@@ -1,2 +1,0 @@
-pub mod Whats
-pub mod ShownTexts

@@ -1,5 +1,0 @@
-use Rattle.import_cut.proofs.ByBraces.{chosen_by_braces}
-use Rattle.import_cut.proofs.laws.chosen_rules_are_by_braces.Goals as goal
-
-pub returns : goal.returns
-returns c = chosen_by_braces

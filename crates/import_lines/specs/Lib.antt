@@ -1,2 +1,0 @@
-pub mod AccountLines
-pub mod RefusalLines

@@ -1,4 +1,0 @@
-pub mod GroupLaws
-pub mod MadeItems
-pub mod Reread
-pub mod ImportLaws

@@ -1,4 +1,0 @@
-pub mod OneWay
-pub mod Groups
-pub mod Settled
-pub mod ImportedPaths

@@ -1,0 +1,9 @@
+pub mod GroupLaws
+pub mod MadeItems
+pub mod Reread
+pub mod ImportLaws
+pub mod ExpandedTexts
+pub mod Gathers
+pub mod ToldOutcomes
+pub mod ToldShapes
+pub mod TooMany

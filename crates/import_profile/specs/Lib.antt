@@ -1,0 +1,12 @@
+pub mod OneWay
+pub mod Groups
+pub mod Settled
+pub mod ImportedPaths
+pub mod Expanded
+pub mod FileRules
+pub mod AddedRules
+pub mod Restated
+pub mod Faults
+pub mod Imports
+pub mod Told
+pub mod inner

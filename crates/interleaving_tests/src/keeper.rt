@@ -1,0 +1,2 @@
+//! Tests of `row_keeper`.
+mod steps;

@@ -1,5 +1,0 @@
-//! Tests of `row_keeper`, and nothing else: as they stand here, the library is proved once.
-#![tactic(auto)]
-
-#[cfg(test)]
-mod steps;

@@ -1,0 +1,6 @@
+//! Tests of `verdict_cache`.
+mod fixtures;
+mod order;
+mod questions;
+mod refusals;
+mod threads;

@@ -1,6 +1,0 @@
--- An item of another kind ends otherwise; a group with its brace.
-use Rattle.path_leads.proofs.Ends.{no_run}
-use Rattle.path_leads.proofs.shapes.is_run.Goals as goal
-
-pub returns-in_default : goal.returns-in_default
-returns-in_default c = no_run c.args.item.now c.in_default.not-Stars

@@ -1,2 +1,0 @@
-pub mod BenchHistory
-pub mod inner

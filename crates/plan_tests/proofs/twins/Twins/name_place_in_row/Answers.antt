@@ -1,7 +1,0 @@
-use Rattle.std.proofs.Common.{◌≡◌, ℕ, List, sym, subst}
-use Rattle.row_plan.specs.Plan.{Plannable}
-use Rattle.plan_tests.proofs.twins.Twins.name_place_in_row.Goals as goal
-
-pub invariant_of-self : goal.invariant_of-self
-invariant_of-self c = subst (λ (known : ℕ × List ℕ). Plannable known.0 (λ z. z ≡ known.1) c.self.inside.next)
-    (sym c.name_of_place.ensures.kept) c.self.invariant

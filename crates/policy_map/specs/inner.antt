@@ -1,3 +1,0 @@
--- Words of private contracts and proofs alone.
-pub mod Profiles
-pub mod Holding

@@ -1,3 +1,0 @@
-pub mod CopyLaws
-pub mod Walks
-pub mod WalkTests

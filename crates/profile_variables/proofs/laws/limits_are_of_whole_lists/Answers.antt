@@ -1,5 +1,0 @@
-use Rattle.profile_variables.proofs.WholeLaws.{same_lists}
-use Rattle.profile_variables.proofs.laws.limits_are_of_whole_lists.Goals as goal
-
-pub returns : goal.returns
-returns c = same_lists

@@ -1,8 +1,0 @@
--- None of the names before is marked.
-use Rattle.std.proofs.Common.{◌≡◌, false, map, take}
-use Rattle.std.specs.List.{list_any}
-use Rattle.profile_variables.specs.inner.Known.{is_named_marked}
-use Rattle.profile_variables.proofs.making.is_one_marked.Given as goal
-
-abbrev pub invariant-loop-name : goal.invariant-loop-name
-invariant-loop-name l = list_any (is_named_marked l.declared l.marks) (map (λ name. name.now) (take l.name-index l.names)) ≡ false

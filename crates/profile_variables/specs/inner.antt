@@ -1,5 +1,0 @@
-pub mod CodePieces
-pub mod Adding
-pub mod Gives
-pub mod Known
-pub mod Way

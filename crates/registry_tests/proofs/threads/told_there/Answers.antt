@@ -1,6 +1,0 @@
-use denote.Param.Send.{sendable}
-use Rattle.profile_registry.proofs.Sending.{publisher_send}
-use Rattle.registry_tests.proofs.threads.told_there.Goals as goal
-
-pub join-requires-send-F : goal.join-requires-send-F
-join-requires-send-F g c κs within = search (sendable, publisher_send) depth 40

@@ -1,0 +1,9 @@
+pub mod ChoiceLaws
+pub mod GroupLaws
+pub mod Ends
+pub mod SameNames
+pub mod Stays
+pub mod LedStays
+pub mod CopyLaws
+pub mod Walks
+pub mod WalkTests

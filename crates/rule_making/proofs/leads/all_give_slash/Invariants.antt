@@ -1,0 +1,11 @@
+-- What is left of the alternatives, from here.
+use Rattle.std.proofs.Common.{◌≡◌, drop, map}
+use Rattle.std.specs.List.{list_all}
+use Rattle.rule_globs.specs.Tokens.{tokens_of}
+use Rattle.rule_making.specs.Leads.{gives_slash}
+use Rattle.rule_making.proofs.leads.all_give_slash.Given as goal
+
+abbrev pub invariant-loop-items : goal.invariant-loop-items
+invariant-loop-items l =
+    list_all gives_slash (map (λ items. tokens_of items.items) (drop l.items-index l.alternatives))
+    ≡ list_all gives_slash (map (λ items. tokens_of items.items) l.alternatives)

@@ -1,5 +1,0 @@
-use Rattle.rule_reader.proofs.SpanLaws.{spans_again}
-use Rattle.rule_reader.proofs.reading.laws.spans_are_read_again.Goals as goal
-
-pub returns : goal.returns
-returns c = spans_again

@@ -1,2 +1,0 @@
--- Definitions for private contracts and proofs only.
-pub mod Sharing

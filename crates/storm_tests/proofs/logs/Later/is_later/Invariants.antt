@@ -1,6 +1,0 @@
-use Rattle.std.proofs.Common.{◌≡◌}
-use Rattle.storm_tests.proofs.logs.Later.is_later.Given as goal
-
--- the session stays one of the guard's row
-abbrev pub invariant-loop-turn : goal.invariant-loop-turn
-invariant-loop-turn g l = l.session.walk.table ≡ g.M.Row.table

@@ -1,4 +1,0 @@
-use Rattle.storm_tests.proofs.logs.expect_between.Given as goal
-
-abbrev pub ghosts-seen_on : goal.ghosts-seen_on
-ghosts-seen_on g a = record { table = a.keeper.table }

@@ -1,4 +1,0 @@
-use Rattle.storm_tests.proofs.together.meet.Given as goal
-
-abbrev pub ghosts-storm_on : goal.ghosts-storm_on
-ghosts-storm_on g a = record { table = a.keeper.table }

@@ -1,8 +1,0 @@
-pub mod SomeElements
-pub mod SomeHits
-pub mod ChangeKinds
-pub mod RestatedPerms
-pub mod RestatedRules
-pub mod RestatedVerdicts
-pub mod RealChanges
-pub mod ChangeParts

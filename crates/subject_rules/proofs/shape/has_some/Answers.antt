@@ -1,5 +1,0 @@
-use Rattle.subject_rules.proofs.RestatedPerms.{not_empty}
-use Rattle.subject_rules.proofs.shape.has_some.Goals as goal
-
-pub returns : goal.returns
-returns c = not_empty c.args.perms c.is_empty.result c.is_empty.ensures.0 c.is_empty.ensures.1

@@ -1,0 +1,25 @@
+use Rattle.std.proofs.Common.{◌≡◌, Err, rules}
+use Rattle.trace_report.proofs.Endings.{text_of}
+use Rattle.trace_commands.proofs.ExplainEndings.{asked_in_vain, unread}
+use Rattle.trace_report.specs.Fault.{IsFaultOf}
+use Rattle.trace_report.specs.declared.format.Format.{Format}
+use Rattle.trace_commands.specs.Explain.{explain_output}
+use Rattle.trace_commands.proofs.explain_command.text_asked.Goals as goal
+
+pub returns-in_err-ask-clause-output : goal.returns-in_err-ask-clause-output
+returns-in_err-ask-clause-output g c =
+    let text = text_of (g.R.Read.remaining c.args.input.now) in
+    let told : c.from_residual.result ≡ Err c.in_err-ask.field-0.0 = search rules in
+    let f = c.in_err-ask.field-0.0 in
+    let why : (format : Format) → IsFaultOf (explain_output format c.args.perms.now c.args.name.now text.0) f = λ format.
+    asked_in_vain format c.args.perms.now c.args.name.now text.0 f c.in_err-ask.ensures.0 c.in_err-ask.ensures.1 in
+    (text.0, text.1, rw told why)
+
+pub returns-in_err-text-clause-output : goal.returns-in_err-text-clause-output
+returns-in_err-text-clause-output g c =
+    let text = text_of (g.R.Read.remaining c.args.input.now) in
+    let told : c.from_residual-in_err-text.result ≡ Err c.in_err-text.field-0.0 = search rules in
+    let f = c.in_err-text.field-0.0 in
+    let why : (format : Format) → IsFaultOf (explain_output format c.args.perms.now c.args.name.now text.0) f = λ format.
+    unread format c.args.perms.now c.args.name.now text.0 c.in_ok-ask.ask f c.in_ok-ask.ensures c.in_err-text.ensures in
+    (text.0, text.1, rw told why)

@@ -1,7 +1,0 @@
-use Rattle.trace_report.proofs.Endings.{one_told}
-use Rattle.trace_commands.proofs.matching.match_name.Goals as goal
-
-pub returns-in-Err-clause-output : goal.returns-in-Err-clause-output
-returns-in-Err-clause-output g c =
-    let read = c.in-Err.ensures.output in
-    (read.0, read.1, one_told _ _ _ _ c.in-Err.fault c.fail.result read.2 (rw c.status.ensures at c.fail.ensures))

@@ -1,4 +1,0 @@
-use Rattle.trace_line.proofs.found.each_rule_in.Goals as goal
-
-pub returns : goal.returns
-returns c = c.flag_in.ensures

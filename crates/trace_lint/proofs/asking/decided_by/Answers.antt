@@ -1,4 +1,0 @@
-use Rattle.trace_lint.proofs.asking.decided_by.Goals as goal
-
-pub returns-in-Err-clause-err : goal.returns-in-Err-clause-err
-returns-in-Err-clause-err c = c.reported.ensures c.args.pair.now.rules c.in-Err.ensures.err

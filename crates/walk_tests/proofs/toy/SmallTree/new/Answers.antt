@@ -1,9 +1,0 @@
-use Rattle.std.proofs.Common.{refl}
-use Rattle.directory_tree.specs.Walk.Spot.{Root}
-use Rattle.path_lookup.specs.World.{World}
-use Rattle.walk_tests.specs.SmallTree.{small_tree}
-use Rattle.walk_tests.proofs.SmallTree.{small_sound}
-use Rattle.walk_tests.proofs.toy.SmallTree.new.Goals as goal
-
-pub returns : goal.returns
-returns c = let w : World = record { tree = small_tree; named = λ _. Root; sound = small_sound } in (w, refl)

@@ -1,3 +1,0 @@
-pub mod WordsRead
-pub mod ReadingOn
-pub mod Deciding
