@@ -1,4 +1,3 @@
-pub mod NoFloats
 pub mod NameCases
 pub mod PassedMembers
 pub mod JoinedVerdicts

@@ -1,3 +1,4 @@
 pub mod Values
 pub mod Lines
 pub mod inner
+pub mod laws

@@ -2,7 +2,7 @@
 use Rattle.std.proofs.Common.{◌≡◌, ◌⊎◌, Bool, true, false, not, ◌&&◌, if◌then◌else◌, inl, inr, refl, sym, true≢false}
 use Rattle.names.specs.declared.permissions.Perms.{Perms}
 use Rattle.names.specs.Permissions.{has}
-use Rattle.names.proofs.PermsLaws.{one_found}
+use Rattle.names.specs.laws.PermissionSets.{one_found}
 use Rattle.apparmor_rules.specs.declared.effect.Extent.{Extent}
 use Rattle.apparmor_rules.specs.declared.effect.Extent.TheVariants.{Exact}
 use Rattle.apparmor_rules.specs.declared.shape.RuleShape.{RuleShape}
@@ -10,7 +10,7 @@ use Rattle.apparmor_rules.specs.declared.subject.Subject.{Subject}
 use Rattle.apparmor_rules.specs.Changes.{change, for_everybody, gained, lost, qualifier_alone}
 use Rattle.apparmor_rules.specs.Restatement.{can_be_said, has_some, loses_link, restated_perms}
 use Rattle.apparmor_rules.specs.Subjects.{applies_to}
-use Rattle.apparmor_rules.proofs.RestatedPerms.{held_before, some_held}
+use Rattle.apparmor_rules.specs.laws.RestatedPerms.{held_before, some_held}
 
 some_before : (perms : Perms) (has_target : Bool) → has_some (restated_perms perms has_target) ≡ true → has_some perms ≡ true
 some_before perms has_target left =

@@ -2,7 +2,6 @@ mod Decimals
 pub mod SomeElements
 pub mod SomeHits
 pub mod ChangeKinds
-pub mod RestatedPerms
 pub mod RestatedRules
 pub mod RestatedVerdicts
 pub mod RealChanges

@@ -5,7 +5,7 @@ use Rattle.std.proofs.lemmas.Bool.{and_parts, cases_Bool}
 use Rattle.names.specs.declared.permissions.Permission.{Permission}
 use Rattle.names.specs.declared.permissions.Permission.TheVariants.{Link}
 use Rattle.names.specs.Permissions.{has, held}
-use Rattle.names.proofs.PermsLaws.{one_found}
+use Rattle.names.specs.laws.PermissionSets.{one_found}
 use Rattle.rule_globs.specs.Rules.{RuleValue, holds}
 use Rattle.apparmor_rules.specs.declared.subject.Subject.{Subject}
 use Rattle.apparmor_rules.specs.Changes.{change, gained, lost}
@@ -14,7 +14,7 @@ use Rattle.apparmor_rules.specs.Restatement.{can_be_said, has_some, is_restated,
 use Rattle.apparmor_rules.specs.SubjectRules.{SubjectRule}
 use Rattle.apparmor_rules.specs.Subjects.{applies_to}
 use Rattle.apparmor_rules.proofs.ChangeKinds.{is_lost, lost_is_gained, never_gained}
-use Rattle.apparmor_rules.proofs.RestatedPerms.{held_by_letters, held_link, letter_held, letter_restated, link_stays_out}
+use Rattle.apparmor_rules.specs.laws.RestatedPerms.{held_by_letters, held_link, letter_held, letter_restated, link_stays_out}
 use Rattle.apparmor_rules.proofs.RestatedRules.{change_if, gain_if, made, restated_if}
 use Rattle.apparmor_rules.proofs.SomeElements.{nothing_in}
 

@@ -18,7 +18,7 @@ use Rattle.apparmor_rules.specs.Restatement.{restated_paths, restated_perms, sha
 use Rattle.apparmor_rules.specs.Restatement.{with_path}
 use Rattle.apparmor_rules.specs.SubjectRules.{SubjectPath, SubjectRule, Unknown, read, unread}
 use Rattle.apparmor_rules.specs.Subjects.{applies_to}
-use Rattle.apparmor_rules.proofs.RestatedPerms.{held_after, held_before, held_by_letters, held_link, met, some_letter}
+use Rattle.apparmor_rules.specs.laws.RestatedPerms.{held_after, held_before, held_by_letters, held_link, met, some_letter}
 use Rattle.apparmor_rules.proofs.SomeElements.{made_of_some, nothing_in, some_from, some_made}
 
 -- a path's names are those of the paths that it was read as

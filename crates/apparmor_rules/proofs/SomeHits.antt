@@ -4,7 +4,7 @@ use Rattle.std.specs.List.{Contains}
 use Rattle.names.specs.declared.permissions.Permission.{Permission}
 use Rattle.names.specs.declared.permissions.Perms.{Perms}
 use Rattle.names.specs.Permissions.{has}
-use Rattle.names.proofs.PermsLaws.{only_one}
+use Rattle.names.specs.laws.PermissionSets.{only_one}
 use Rattle.rule_globs.specs.Glob.{Takes}
 use Rattle.rule_globs.specs.Rules.{RuleValue, pattern, holds}
 use Rattle.rule_globs.specs.Verdict.{Hits, IsAllowed, IsVerdict}

@@ -11,3 +11,4 @@ pub mod Changes
 pub mod EffectText
 pub mod Causes
 pub mod Lists
+pub mod laws

@@ -6,7 +6,7 @@ use Rattle.std.specs.List.{starts_with}
 use Rattle.std.proofs.lemmas.List.{length-drop}
 use Rattle.rule_reader.specs.TextBytes.{begins, is_white}
 use Rattle.rule_reader.specs.ReadWords.{after, leading, is_word}
-use Rattle.rule_reader.proofs.ReadRuns.{leading_parts}
+use Rattle.rule_reader.specs.laws.ReadRuns.{leading_parts}
 use Rattle.apparmor_text.specs.declared.part.PartKind.TheVariants as parts
 use Rattle.apparmor_words.specs.Blanks.{is_blank}
 use Rattle.apparmor_words.specs.Steps.{Stop, left_out, fault_here, syntax_here}
@@ -20,8 +20,8 @@ use Rattle.apparmor_text.specs.Headers.{flags_to, condition_part, attachment_par
 use Rattle.apparmor_text.specs.Headers.{hat_head, caret_head}
 use Rattle.apparmor_words.specs.Assignments.{past_use, past_separators, line_ends}
 use Rattle.apparmor_text.specs.Assignments.{separators_part, values_at, values_part, white_part, operator_part, assignment_part}
-use Rattle.apparmor_words.proofs.Shorter.{statement_end_shorter, boolean_shorter, leading_white, use_shorter}
-use Rattle.apparmor_words.proofs.Steps.{bind_ok, chosen, ok_is, not_ok}
+use Rattle.apparmor_words.specs.laws.Shorter.{statement_end_shorter, boolean_shorter, leading_white, use_shorter}
+use Rattle.apparmor_words.specs.laws.Steps.{bind_ok, chosen, ok_is, not_ok}
 use Rattle.apparmor_text.proofs.Progress.{Goes, going_stays, going_on, going_taken}
 use Rattle.apparmor_text.proofs.GoingWords.{Shortens, shorter_on, on_shorter, shortens_to, front_taken, blank_goes}
 use Rattle.apparmor_text.proofs.GoingWords.{word_shortens, name_shortens, literal_goes}

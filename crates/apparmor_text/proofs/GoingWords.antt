@@ -14,8 +14,8 @@ use Rattle.apparmor_text.specs.Readings.{Reading, taken, taken_to}
 use Rattle.apparmor_words.specs.Words.{blank_at, word_end, is_path, is_colon}
 use Rattle.apparmor_text.specs.WordParts.{blank_part, gap_part, word_part, path_part, literal_part, name_part}
 use Rattle.apparmor_text.specs.WordParts.{within_quotes, begins_no_name}
-use Rattle.apparmor_words.proofs.Shorter.{blank_before, word_shorter, opened_shorter}
-use Rattle.apparmor_words.proofs.Steps.{bind_ok, chosen, ok_is, not_ok}
+use Rattle.apparmor_words.specs.laws.Shorter.{blank_before, word_shorter, opened_shorter}
+use Rattle.apparmor_words.specs.laws.Steps.{bind_ok, chosen, ok_is, not_ok}
 use Rattle.apparmor_text.proofs.Progress.{Goes, going_on, going_taken, going_shortens}
 
 -- a front part is what comes before the rest

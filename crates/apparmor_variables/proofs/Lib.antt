@@ -1,4 +1,3 @@
-pub mod PieceSteps
 pub mod TextLists
 pub mod Places
 pub mod PlaceSteps
@@ -10,7 +9,6 @@ pub mod FirstValue
 pub mod WayShort
 pub mod AddingSteps
 pub mod PathSteps
-pub mod PieceLaws
 pub mod ListLaws
 pub mod ProblemLaws
 pub mod FewLevels

@@ -7,3 +7,4 @@ pub mod Slashes
 pub mod Counts
 pub mod Faults
 pub mod inner
+pub mod laws

@@ -9,3 +9,4 @@ pub mod Conditions
 pub mod Priorities
 pub mod Assignments
 pub mod inner
+pub mod laws

@@ -9,7 +9,7 @@ use Rattle.names.specs.declared.record.Record.{Record}
 use Rattle.automaton_rows.specs.Automata.{Automaton}
 use Rattle.automaton_rows.specs.declared.range.TargetRange.{TargetRange}
 use Rattle.automaton_rows.specs.Rows.{target_in, IsRowFrom}
-use Rattle.automaton_rows.proofs.RowLaws.{row_stays, target_stays, row_some}
+use Rattle.automaton_rows.specs.laws.RowLaws.{row_stays, target_stays, row_some}
 use Rattle.automaton_products.specs.declared.pairs.Pair.{Pair}
 use Rattle.automaton_products.specs.Products.{next_pair, AreFewPairs, Keeps, joined}
 use Rattle.automaton_products.specs.ProductStates.{IsJoinedRow, AreStates}

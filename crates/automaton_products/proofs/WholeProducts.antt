@@ -7,7 +7,7 @@ use Rattle.names.specs.declared.record.Record.{Record}
 use Rattle.automaton_rows.specs.Automata.{Automaton, IsWhole, target, state_after}
 use Rattle.automaton_rows.specs.declared.range.TargetRange.{TargetRange}
 use Rattle.automaton_rows.specs.Rows.{rows_of, AreRows}
-use Rattle.automaton_rows.proofs.RowLists.{row_at, rows_long, target_at, targets_long}
+use Rattle.automaton_rows.specs.laws.RowLists.{row_at, rows_long, target_at, targets_long}
 use Rattle.automaton_products.specs.declared.pairs.Pair.{Pair}
 use Rattle.automaton_products.specs.Products.{pair, dead_pair, start_pair, next_pair, IsMet, IsProduct}
 use Rattle.automaton_products.specs.ProductStates.{AreStates}

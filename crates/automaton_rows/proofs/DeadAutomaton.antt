@@ -4,8 +4,8 @@ use Rattle.names.specs.declared.record.Record.{Record}
 use Rattle.automaton_rows.specs.Automata.{Automaton, IsWhole}
 use Rattle.automaton_rows.specs.declared.range.TargetRange.{TargetRange}
 use Rattle.automaton_rows.specs.Rows.{rows_of, target_in}
-use Rattle.automaton_rows.proofs.RowLaws.{in_first}
-use Rattle.automaton_rows.proofs.RowLists.{row_at, rows_long, target_at, targets_long}
+use Rattle.automaton_rows.specs.laws.RowLaws.{in_first}
+use Rattle.automaton_rows.specs.laws.RowLists.{row_at, rows_long, target_at, targets_long}
 
 abbrev pub one : TargetRange
 one = record { last = 255; target = 0 }

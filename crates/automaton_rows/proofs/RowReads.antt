@@ -4,7 +4,7 @@ use Rattle.std.proofs.Common.{◌∙◌, subst, arith}
 use Rattle.std.proofs.lemmas.List.{length-drop}
 use Rattle.automaton_rows.specs.declared.range.TargetRange.{TargetRange}
 use Rattle.automaton_rows.specs.Rows.{target_in, IsRowFrom, AreRows}
-use Rattle.automaton_rows.proofs.RowLaws.{in_first, past_first, row_some}
+use Rattle.automaton_rows.specs.laws.RowLaws.{in_first, past_first, row_some}
 
 -- what is left of a row that has a byte
 abbrev pub StandsIn : List TargetRange → ℕ → ℕ → Type 0

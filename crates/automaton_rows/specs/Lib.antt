@@ -1,3 +1,4 @@
 pub mod Automata
 pub mod Faults
 pub mod Rows
+pub mod laws

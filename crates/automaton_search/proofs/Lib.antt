@@ -1,6 +1,3 @@
-pub mod Lists
-pub mod Places
-pub mod Orders
 pub mod NameLaws
 pub mod TrailNames
 pub mod WalkLaws

@@ -15,7 +15,7 @@ use Rattle.automaton_search.specs.declared.states.States.{States}
 use Rattle.automaton_search.specs.declared.walk.Trail.{Trail}
 use Rattle.automaton_search.specs.Visits.{IsSearchFault, next_states, start_states, states_after}
 use Rattle.automaton_search.specs.inner.Walks.{IsVisitFault, IsWalkAt, led}
-use Rattle.automaton_search.proofs.Lists.{distinct_more, get_either}
+use Rattle.automaton_search.specs.laws.Lists.{distinct_more, get_either}
 use Rattle.automaton_search.proofs.NameLaws.{name_bytes, name_more}
 use Rattle.automaton_search.proofs.WalkLaws.{led_one_more}
 

@@ -5,7 +5,7 @@ use Rattle.std.proofs.lemmas.List.{length-append}
 use Rattle.std.proofs.lemmas.Option.{none-some, same_Some, slice_get-get_or}
 use Rattle.automaton_search.specs.declared.walk.Trail.{Trail}
 use Rattle.automaton_search.specs.inner.Trails.{AreNames, GoBack, names_from}
-use Rattle.automaton_search.proofs.Lists.{get_stays, get_last}
+use Rattle.automaton_search.specs.laws.Lists.{get_stays, get_last}
 
 -- the name of a trail after these names
 abbrev named : List (List ℕ) → Trail → List ℕ

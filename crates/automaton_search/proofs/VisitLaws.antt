@@ -10,7 +10,7 @@ use Rattle.automaton_search.specs.Visits.{AreAllVisits, AreDistinct, AreStatesOf
 use Rattle.automaton_search.specs.Visits.{next_states, start_states}
 use Rattle.automaton_search.specs.inner.Trails.{GoBack, names_from}
 use Rattle.automaton_search.specs.inner.Walks.{IsAt, IsWalk, IsWalkAt}
-use Rattle.automaton_search.proofs.Lists.{no_more}
+use Rattle.automaton_search.specs.laws.Lists.{no_more}
 use Rattle.automaton_search.proofs.ThreeStates.{led_all, states}
 use Rattle.automaton_search.proofs.TrailNames.{are_named, goes_back, same_names}
 use Rattle.automaton_search.proofs.WalkLaws.{all_met}

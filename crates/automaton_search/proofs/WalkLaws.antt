@@ -10,7 +10,7 @@ use Rattle.automaton_search.specs.Order.{IsAtMost}
 use Rattle.automaton_search.specs.declared.walk.Trail.{Trail}
 use Rattle.automaton_search.specs.inner.Walks.{IsAt, IsMetBy, IsNameByte, IsWalk, IsWalkAt, led}
 use Rattle.automaton_search.proofs.NameLaws.{name_parts}
-use Rattle.automaton_search.proofs.Orders.{less_than_more, at_most_through, at_most_with}
+use Rattle.automaton_search.specs.laws.Orders.{less_than_more, at_most_through, at_most_with}
 
 pub led_one_more : {K : Type 0} → (next : K → ℕ → K) (s : K) (bytes : List ℕ) (b : ℕ) →
     led next s (bytes ++ b ∷ []) ≡ next (led next s bytes) b

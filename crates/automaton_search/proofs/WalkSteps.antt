@@ -9,10 +9,10 @@ use Rattle.automaton_search.specs.Order.{IsLess, place_of}
 use Rattle.automaton_search.specs.declared.walk.Trail.{Trail}
 use Rattle.automaton_search.specs.inner.Trails.{AreNames}
 use Rattle.automaton_search.specs.inner.Walks.{AreKept, IsAt, IsMetBy, IsStretch, IsWalk, IsWalkAt, IsVisited, led}
-use Rattle.automaton_search.proofs.Lists.{get_stays, get_last, get_either}
+use Rattle.automaton_search.specs.laws.Lists.{get_stays, get_last, get_either}
 use Rattle.automaton_search.proofs.NameLaws.{name_more, slash_is_name}
-use Rattle.automaton_search.proofs.Orders.{less_through, less_with, less_by_last, at_most_by_last}
-use Rattle.automaton_search.proofs.Places.{all_bytes, between, no_zero, places_ascend}
+use Rattle.automaton_search.specs.laws.Orders.{less_through, less_with, less_by_last, at_most_by_last}
+use Rattle.automaton_search.specs.laws.Places.{all_bytes, between, no_zero, places_ascend}
 use Rattle.automaton_search.proofs.WalkLaws.{led_one_more}
 
 abbrev slash : List ℕ

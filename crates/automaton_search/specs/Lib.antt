@@ -1,3 +1,4 @@
 pub mod Order
 pub mod Visits
 pub mod inner
+pub mod laws

@@ -9,7 +9,7 @@ use Rattle.directory_tree.specs.Tree.{Tree, Entry, WellFormed, root, own_entry, 
 use Rattle.directory_tree.specs.Walk.{Spot, spot_of}
 use Rattle.directory_tree.specs.Walk.Spot.{Root, Held}
 use Rattle.directory_tree.specs.Spots.{Stands, node_at, kind_at, shape_of, directory_of}
-use Rattle.directory_tree.proofs.Basics.{some_inj, none_is_some}
+use Rattle.std.proofs.lemmas.Option.{none-some, same_Some}
 use Rattle.directory_tree.proofs.Depth.{Deep, deep, shallow}
 use Rattle.directory_tree.proofs.Presence.{spot_node}
 use Rattle.directory_tree.proofs.Placement.{root_nowhere}
@@ -89,7 +89,7 @@ root_apart t (suc n) top well other =
 pub climb_root : (t : Tree) (top : ℕ) (from at : Spot) (i : ℕ) → WellFormed t → ClimbsTo t top from at i → directory_of t at ≡ None →
     node_at at ≢ top → is_below t.entries (length t.entries) top (node_at from) ≡ false
 climb_root t top from Root i well h none other = sym h.same ∙ root_apart t (length t.entries - i) top well other
-climb_root t top from (Held e) i well h none other = absurd (none_is_some _ (sym none))
+climb_root t top from (Held e) i well h none other = absurd (none-some _ (sym none))
 
 up_once : (es : List Entry) (n top at : ℕ) (e : Entry) → at ≢ top → own_entry es at ≡ Some e → is_below es (suc n) top at
     ≡ is_below es n top e.of
@@ -115,7 +115,7 @@ climb_held : (t : Tree) (top : ℕ) (from : Spot) (e : Entry) (i k : ℕ) → We
 climb_held t top from e i zero well stands h low d other = let a = (well.low e.of e.component e stands).0 in absurd (omega arith)
 climb_held t top from e i (suc k) well stands h low (z, is, past, up) other =
     let placed = placed_at t well e.of e.component e stands (directory_shape e.kind h.directory) in
-    let same_entry : z ≡ e = some_inj z e (sym is ∙ placed) in
+    let same_entry : z ≡ e = same_Some z e (sym is ∙ placed) in
     let (n, lead) = well.rooted e.of e.component e stands in
     let node : node_at (spot_of t e.of) ≡ e.of = spot_node t well n e.of lead in
     let less : length t.entries - i ≡ suc (length t.entries - (i + 1)) = omega arith in
@@ -129,10 +129,10 @@ climb_held t top from e i (suc k) well stands h low (z, is, past, up) other =
 
 pub climb_up : (t : Tree) (top : ℕ) (from at up : Spot) (i : ℕ) → WellFormed t → Stands t at → ClimbsTo t top from at i → directory_of t at
     ≡ Some up → node_at at ≢ top → ClimbsTo t top from up (i + 1)
-climb_up t top from Root up i well stands h is other = absurd (none_is_some up is)
+climb_up t top from Root up i well stands h is other = absurd (none-some up is)
 climb_up t top from (Held e) up i well stands h is other =
     let (k, low, d) = h.deep_at in
-    subst (λ (s : Spot). ClimbsTo t top from s (i + 1)) (some_inj (spot_of t e.of) up is)
+    subst (λ (s : Spot). ClimbsTo t top from s (i + 1)) (same_Some (spot_of t e.of) up is)
     (climb_held t top from e i k well stands h low d other)
 
 pub climb_last : (t : Tree) (top most i : ℕ) (from at : Spot) → length t.entries ≤ most → most ≤ i → ClimbsTo t top from at i →

@@ -6,10 +6,10 @@ use Rattle.row_index.specs.Places.{index_length}
 use Rattle.tree_row.specs.Slots.{slots_length}
 use Rattle.tree_row.specs.Rows.{row_length}
 use Rattle.tree_row.specs.OpeningRow.{opening_row}
-use Rattle.tree_row.proofs.OpeningRow.{length-opening, opens}
+use Rattle.tree_row.specs.laws.OpeningRow.{length-opening, opens}
 use Rattle.row_rule.specs.Row.{KeptBy}
 use Rattle.row_rule.specs.Steps.{at_rest}
-use Rattle.row_rule.proofs.Rule.{opening_kept}
+use Rattle.row_rule.specs.laws.Rule.{opening_kept}
 use Rattle.row_plan.specs.Changes.{EncodesChanges}
 use Rattle.dentry_cache.specs.Seats.{Mine, keeper_of, IsKeeping}
 use Rattle.dentry_cache.specs.Told.{first_view}

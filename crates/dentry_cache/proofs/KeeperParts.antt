@@ -12,16 +12,16 @@ use Rattle.directory_tree.specs.declared.change.Change.{Change}
 use Rattle.directory_tree.specs.declared.change.Change.TheVariants as change
 use Rattle.directory_tree.specs.Tree.{Tree, root_alone}
 use Rattle.directory_tree.specs.Apply.{Changed, apply, apply_counted, has_room, most_changes, tree_after}
-use Rattle.directory_tree.proofs.Basics.{ok_inj, err_is_ok}
+use Rattle.names.specs.laws.Results.{err-ok, same_Ok}
 use Rattle.directory_tree.proofs.Changes.{tree_after_well}
 use Rattle.path_lookup.specs.World.{World}
-use Rattle.directory_tree.proofs.OneMore.{after_more}
+use Rattle.directory_tree.specs.laws.OneMore.{after_more}
 use Rattle.tree_row.specs.Slots.{slot_at}
 use Rattle.tree_row.specs.Rows.{Encodes, row_length}
 use Rattle.tree_row.specs.Worlds.{spot_at, EncodesWorld, SeesBy}
 use Rattle.tree_row.specs.OpeningRow.{opening_row}
-use Rattle.tree_row.proofs.OpeningRow as opening_row_is
-use Rattle.tree_row.proofs.OneTree.{same_tree}
+use Rattle.tree_row.specs.laws.OpeningRow as opening_row_is
+use Rattle.tree_row.specs.laws.OneTree.{same_tree}
 use Rattle.row_rule.specs.declared.cell.Cell.{Cell}
 use Rattle.row_rule.specs.declared.view.KeeperView.{KeeperView}
 use Rattle.row_rule.specs.Row.{write, count_of, pending_count}
@@ -50,7 +50,7 @@ module _ (capacity : ℕ) (history : List Change) (t : Tree) (made : tree_after 
       elim (nat_lt (length history) most_changes) as (λ (b : Bool). nat_lt (length history) most_changes ≡ b →
       (if b then apply t (has_room capacity t) change else Err EOVERFLOW) ≡ Ok u → length history < most_changes) [
         | true ↦ λ q h. ltb-true (length history) most_changes q
-        | false ↦ λ q h. absurd (err_is_ok EOVERFLOW u h)
+        | false ↦ λ q h. absurd (err-ok EOVERFLOW u h)
       ] refl (sym more ∙ is)
 
 -- a change numbers at most one node
@@ -137,7 +137,7 @@ pub kept_next : (h : Held) (next version : ℕ) (change : Change) (plan : List C
     → IsKept h' (next_after next change) (version + 1)
 kept_next h next version change plan h' k ((w, stood, named, plans), (u, made, encodes)) capacity history cells =
     let few = few_were h.capacity h.history k.tree k.made change u made in
-    let same : w.tree ≡ k.tree = ok_inj w.tree k.tree (sym stood ∙ k.made) in
+    let same : w.tree ≡ k.tree = same_Ok w.tree k.tree (sym stood ∙ k.made) in
     record {
       tree = plans.after;
       made = (λ i. tree_after (capacity i) (history i)) ∙ (counted h.capacity h.history w.tree stood change few ∙ plans.made);

@@ -13,11 +13,11 @@ use Rattle.row_rule.specs.declared.view.View.{View}
 use Rattle.row_rule.specs.declared.view.View.TheVariants.{Keeps, Walks}
 use Rattle.row_rule.specs.Row.{write, count_of, KeptBy, Holds}
 use Rattle.row_rule.specs.Steps.{newcomer, beginning, reading, ending, opening, setting, closing, meeting}
-use Rattle.row_rule.proofs.Lists.{set_else, set_again}
-use Rattle.row_rule.proofs.Rule.{loaded}
-use Rattle.row_rule.proofs.WalkerSteps as walker
-use Rattle.row_rule.proofs.KeeperSteps as keeper
-use Rattle.row_rule.proofs.Meetings as meeting_of
+use Rattle.row_rule.specs.laws.Lists.{set_else, set_again}
+use Rattle.row_rule.specs.laws.Rule.{loaded}
+use Rattle.row_rule.specs.laws.WalkerSteps as walker
+use Rattle.row_rule.specs.laws.KeeperSteps as keeper
+use Rattle.row_rule.specs.laws.Meetings as meeting_of
 use Rattle.row_plan.specs.Changes.{EncodesChanges}
 use Rattle.dentry_cache.proofs.SeenWalks.{sees_after}
 use Rattle.dentry_cache.specs.Seats.{Mine, walker_of, keeper_of, walking, keeping, IsWalking, IsKeeping}

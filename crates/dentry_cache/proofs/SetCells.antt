@@ -3,7 +3,7 @@ use Rattle.std.proofs.Common.{◌≡◌, ℕ, ◌+◌, ◌<◌, min, Bool, true,
 use Rattle.std.proofs.Common.{add-one, drop-cons, take, []}
 use Rattle.std.proofs.lemmas.List.{drop_all, take_all}
 use Rattle.std.proofs.Math.Seq.{take-suc}
-use Rattle.row_rule.proofs.Writes.{write_append}
+use Rattle.row_rule.specs.laws.Writes.{write_append}
 use Rattle.std.proofs.lemmas.Bool.{ltb-true, ltb-false}
 use Rattle.std.specs.Prelude.{nat_lt, slice_set}
 use Rattle.directory_tree.specs.declared.change.Change.{Change}

@@ -9,7 +9,7 @@ use Rattle.tree_row.specs.OpeningRow.{opening_row}
 use Rattle.tree_row.specs.Questions.{FreeIn, IsFirstFree, NoneFreeBefore}
 use Rattle.row_rule.specs.declared.cell.Cell.{Cell}
 use Rattle.row_rule.specs.Row.{write}
-use Rattle.row_rule.proofs.Writes.{length_write}
+use Rattle.row_rule.specs.laws.Writes.{length_write}
 use Rattle.row_tally.specs.declared.note.Note.{Note}
 use Rattle.row_tally.specs.Tally.{IsTallyOf}
 use Rattle.dentry_cache.specs.Seats.{Mine, keeper_of}

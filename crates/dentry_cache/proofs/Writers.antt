@@ -8,8 +8,8 @@ use Rattle.row_rule.specs.declared.view.WalkerView.{WalkerView}
 use Rattle.row_rule.specs.declared.view.View.{View}
 use Rattle.row_rule.specs.declared.view.View.TheVariants.{Keeps, Walks}
 use Rattle.row_rule.specs.Row.{Holds, count_of}
-use Rattle.row_rule.proofs.Lists.{set_else}
-use Rattle.row_rule.proofs.Rule.{apart}
+use Rattle.row_rule.specs.laws.Lists.{set_else}
+use Rattle.row_rule.specs.laws.Rule.{apart}
 use Rattle.row_plan.specs.Changes.{EncodesChanges}
 use Rattle.dentry_cache.specs.Seats.{keeper_of}
 

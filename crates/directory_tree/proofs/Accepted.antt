@@ -1,13 +1,14 @@
 -- What an accepted move does to the entries, and what it says about the tree before it.
-use Rattle.std.proofs.Common.{◌≡◌, ℕ, ◌==◌, Bool, true, false, List, Some, None, Option, sym, refl, ap, ◌∙◌, eqb-true}
+use Rattle.std.proofs.Common.{◌≡◌, ℕ, ◌==◌, Bool, true, false, List, Some, None, Option, sym, refl, ap, ◌∙◌, eqb-true, true≢false}
 use mathlib.Core.Logic.{inl, inr}
 use Rattle.std.specs.Prelude.{if◌then◌else◌, Ok, Err, IfSome, ◌≢◌}
 use Rattle.names.specs.declared.errors.Errno.TheVariants.{EISDIR, ENOTDIR, ENOTEMPTY, EINVAL}
 use Rattle.directory_tree.specs.Tree.{Tree, Entry, Has, find, is_at, is_directory, is_empty}
 use Rattle.directory_tree.specs.Moves.{IsMove}
 use Rattle.directory_tree.specs.Apply.{entry, without, place_one, moved, goes_below, onto_kind, rename, rename_from, rename_onto}
-use Rattle.directory_tree.proofs.Found.{found_at, at_once, is_at-same, Apart, find-placed_else, find-without_other}
-use Rattle.directory_tree.proofs.Basics.{some_inj, none_is_some, ok_inj, err_is_ok, true_is_false}
+use Rattle.directory_tree.specs.laws.Found.{found_at, at_once, is_at-same, Apart, find-placed_else, find-without_other}
+use Rattle.std.proofs.lemmas.Option.{none-some, same_Some}
+use Rattle.names.specs.laws.Results.{err-ok, same_Ok}
 use Rattle.directory_tree.proofs.Presence.{own_key}
 use Rattle.directory_tree.proofs.Placement.{key_apart, after_moved}
 
@@ -26,11 +27,11 @@ pub record IsAccepted (t u : Tree) (d : ℕ) (c : List ℕ) (into : ℕ) (name :
 pub gives_way : (directory onto empty : Bool) (m u : Tree) →
     (if directory then (if onto then (if empty then Ok m else Err ENOTEMPTY) else Err ENOTDIR) else (if onto then Err EISDIR else Ok m))
     ≡ Ok u → (m ≡ u) × (onto ≡ true → empty ≡ true)
-gives_way true true true m u h = (ok_inj m u h, λ p. refl)
-gives_way true true false m u h = absurd (err_is_ok ENOTEMPTY u h)
-gives_way true false empty m u h = absurd (err_is_ok ENOTDIR u h)
-gives_way false true empty m u h = absurd (err_is_ok EISDIR u h)
-gives_way false false empty m u h = (ok_inj m u h, λ p. absurd (true_is_false (sym p)))
+gives_way true true true m u h = (same_Ok m u h, λ p. refl)
+gives_way true true false m u h = absurd (err-ok ENOTEMPTY u h)
+gives_way true false empty m u h = absurd (err-ok ENOTDIR u h)
+gives_way false true empty m u h = absurd (err-ok EISDIR u h)
+gives_way false false empty m u h = (same_Ok m u h, λ p. absurd (true≢false (sym p)))
 
 -- an accepted rename with no other entry of its node at the new place is a move, not into what moves
 pub accepted : (t u : Tree) (d : ℕ) (c : List ℕ) (into : ℕ) (name : List ℕ) (old : Entry) → Has t d c old → rename t d c into name ≡ Ok u →
@@ -41,12 +42,12 @@ accepted t u d c into name old is h move =
     IsAccepted t u d c into name old) [
       | None ↦ λ free q far. elim (goes_below t.entries old into) as (λ (b : Bool). goes_below t.entries old into ≡ b →
           (if b then Err EINVAL else Ok (moved t d c into name)) ≡ Ok u → IsAccepted t u d c into name old) [
-            | true ↦ λ below r. absurd (err_is_ok EINVAL u r)
+            | true ↦ λ below r. absurd (err-ok EINVAL u r)
             | false ↦ λ below r. record {
-              tree = ok_inj _ u r;
+              tree = same_Ok _ u r;
               above = below;
-              apart = λ a b. none_is_some old (sym free ∙ (λ i. find t.entries (a i) (b i)) ∙ is);
-              loose = λ new there. absurd (none_is_some new (sym free ∙ there));
+              apart = λ a b. none-some old (sym free ∙ (λ i. find t.entries (a i) (b i)) ∙ is);
+              loose = λ new there. absurd (none-some new (sym free ∙ there));
             }
           ] refl q
       | Some new ↦ λ there q far. elim (new.node == old.node) as (λ (b : Bool). (new.node == old.node) ≡ b →
@@ -56,14 +57,14 @@ accepted t u d c into name old is h move =
             | false ↦ λ same r. elim (goes_below t.entries old into) as (λ (b : Bool). goes_below t.entries old into ≡ b →
                 (if b then Err EINVAL else onto_kind t.entries old new (Ok (moved t d c into name))) ≡ Ok u →
                 IsAccepted t u d c into name old) [
-                  | true ↦ λ below s. absurd (err_is_ok EINVAL u s)
+                  | true ↦ λ below s. absurd (err-ok EINVAL u s)
                   | false ↦ λ below s. let k = gives_way (is_directory old.kind) (is_directory new.kind) (is_empty t.entries new.node)
                       (moved t d c into name) u s in record {
                         tree = k.0;
                         above = below;
                         apart = λ a b. far (ap (λ (z : Entry). z.node)
-                            (some_inj new old (sym there ∙ (λ i. find t.entries (a i) (b i)) ∙ is)));
-                        loose = λ z at directory. let e = some_inj z new (sym at ∙ there) in
+                            (same_Some new old (sym there ∙ (λ i. find t.entries (a i) (b i)) ∙ is)));
+                        loose = λ z at directory. let e = same_Some z new (sym at ∙ there) in
                             ap (λ (w : Entry). is_empty t.entries w.node) e
                             ∙ k.1 (ap (λ (w : Entry). is_directory w.kind) (sym e) ∙ directory);
                       }
@@ -95,7 +96,7 @@ module _ (t : Tree) (d : ℕ) (c : List ℕ) (old : Entry) (is : find t.entries 
 
   -- what is found at the old place is the entry that moves
   pub at_old : (e : Entry) → Has t e.of e.component e → is_at d c e ≡ true → e ≡ old
-  at_old e found q = let k = at_once d c e.of e.component q in some_inj e old (sym found ∙ (λ i. find t.entries (k.0 i) (k.1 i)) ∙ is)
+  at_old e found q = let k = at_once d c e.of e.component q in same_Some e old (sym found ∙ (λ i. find t.entries (k.0 i) (k.1 i)) ∙ is)
 
   -- what is found after the move was there before, at its place or at the old one
   pub found_before : (into : ℕ) (name : List ℕ) → Apart d c into name → (f : Entry) → Has (moved t d c into name) f.of f.component f →

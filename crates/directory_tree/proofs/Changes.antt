@@ -18,7 +18,9 @@ use Rattle.directory_tree.specs.Walk.Spot.{Root, Held}
 use Rattle.directory_tree.specs.Apply.{Changed, Target, and_then, make, link, unlink, rmdir, rename, target_from, is_dots, tested}
 use Rattle.directory_tree.specs.Apply.{target_of, directory_target, other_target, directory_at, parent_of, at_one, at_two, text_of, apply}
 use Rattle.directory_tree.specs.Apply.{apply_counted, most_changes, has_room, after_from, tree_after}
-use Rattle.directory_tree.proofs.Basics.{none_is_some, ok_inj, err_is_ok, both_false}
+use Rattle.std.proofs.lemmas.Option.{none-some}
+use Rattle.names.specs.laws.Results.{err-ok, same_Ok}
+use Rattle.std.proofs.lemmas.Bool.{or_parts}
 use Rattle.directory_tree.proofs.Texts.{filled_is}
 use Rattle.directory_tree.proofs.Presence.{Stands, placed_at, resolve_stands}
 use Rattle.directory_tree.proofs.Kept.{make_keeps, link_keeps}
@@ -27,7 +29,7 @@ use Rattle.directory_tree.proofs.Renames.{rename_keeps}
 
 pub and_then_inv : {X Y : Type 0} (r : Result X Errno) (next : X → Result Y Errno) (y : Y) → and_then r next ≡ Ok y →
     (x : X) × (r ≡ Ok x) × (next x ≡ Ok y)
-and_then_inv (Err e) next y h = absurd (err_is_ok e y h)
+and_then_inv (Err e) next y h = absurd (err-ok e y h)
 and_then_inv (Ok x) next y h = (x, refl, h)
 
 abbrev Each : (List ℕ → Type 0) → List (List ℕ) → Type 0
@@ -65,17 +67,17 @@ target_plain c [] h each = h
 target_plain c (d ∷ ds) h each = target_plain d ds each.0 each.1
 
 target_good : (refused : Bool) (cs : List (List ℕ)) (a : Target) → Each Plain cs → target_of refused cs ≡ Ok a → IsComponent a.last
-target_good refused [] a each h = absurd (err_is_ok EBUSY a h)
+target_good refused [] a each h = absurd (err-ok EBUSY a h)
 target_good refused (c ∷ cs) a each h = elim refused as (λ (k : Bool). (if k then Err EINVAL else tested (target_from c cs)) ≡ Ok a →
     IsComponent a.last) [
-      | true ↦ λ q. absurd (err_is_ok EINVAL a q)
+      | true ↦ λ q. absurd (err-ok EINVAL a q)
       | false ↦ λ q. elim (is_dots (target_from c cs).last) as (λ (k : Bool). is_dots (target_from c cs).last ≡ k →
           (if k then Err EINVAL else Ok (target_from c cs)) ≡ Ok a → IsComponent a.last) [
-            | true ↦ λ dots r. absurd (err_is_ok EINVAL a r)
+            | true ↦ λ dots r. absurd (err-ok EINVAL a r)
             | false ↦ λ dots r.
                 let plain = target_plain c cs each.0 each.1 in
-                let none = both_false (bytes_eq (target_from c cs).last dot) (bytes_eq (target_from c cs).last dot_dot) dots in
-                subst (λ (x : Target). IsComponent x.last) (ok_inj (target_from c cs) a r) record {
+                let none = or_parts (bytes_eq (target_from c cs).last dot) (bytes_eq (target_from c cs).last dot_dot) dots in
+                subst (λ (x : Target). IsComponent x.last) (same_Ok (target_from c cs) a r) record {
                   filled = plain.0;
                   no_slash = plain.1;
                   no_dot =
@@ -98,13 +100,13 @@ other_good path a h = target_good (ends_with_slash path) (filled_parts path) a
 module _ (t : Tree) (well : WellFormed t) where
   directory_leads : (s : Spot) (d : ℕ) → Stands t s → directory_at s ≡ Ok d → (n : ℕ) × (leads t.entries n d ≡ true)
   unfolding Stands
-  directory_leads Root d stands h = (0, eq-eqb d root (sym (ok_inj root d h)))
+  directory_leads Root d stands h = (0, eq-eqb d root (sym (same_Ok root d h)))
   directory_leads (Held e) d stands h = elim (is_directory e.kind) as (λ (k : Bool). is_directory e.kind ≡ k →
       (if k then Ok e.node else Err ENOTDIR) ≡ Ok d → (n : ℕ) × (leads t.entries n d ≡ true)) [
         | true ↦ λ directory q.
             let (n, l) = well.rooted e.of e.component e stands in (
               suc n,
-              subst (λ (x : ℕ). leads t.entries (suc n) x ≡ true) (ok_inj e.node d q)
+              subst (λ (x : ℕ). leads t.entries (suc n) x ≡ true) (same_Ok e.node d q)
                   (ap (λ (b : Bool). if b then true else elim (own_entry t.entries e.node) as (λ _. Bool)
                   [ None ↦ false | Some z ↦ leads t.entries n z.of ])
                   (ne_eqb e.node root (λ p. let k = (well.low e.of e.component e stands).0 in absurd (omega arith)))
@@ -112,7 +114,7 @@ module _ (t : Tree) (well : WellFormed t) where
                   (placed_at t well e.of e.component e stands directory)
                   ∙ l),
             )
-        | false ↦ λ directory q. absurd (err_is_ok ENOTDIR d q)
+        | false ↦ λ directory q. absurd (err-ok ENOTDIR d q)
       ] refl h
 
   pub parent_leads : (a : Target) (d : ℕ) → parent_of t a ≡ Ok d → (n : ℕ) × (leads t.entries n d ≡ true)
@@ -169,25 +171,25 @@ apply_keeps t u room (change.Rename old new) well h =
     (λ d c into n name l proper q. rename_keeps t u d c into name n well l proper q) h
 
 after_keeps : (capacity count : ℕ) (cs : List Change) (t u : Tree) → WellFormed t → after_from capacity count t cs ≡ Ok u → WellFormed u
-after_keeps capacity count [] t u well h = subst WellFormed (ok_inj t u h) well
+after_keeps capacity count [] t u well h = subst WellFormed (same_Ok t u h) well
 after_keeps capacity count (c ∷ cs) t u well h =
     let (v, is, rest) = and_then_inv (apply_counted capacity count t c) (λ (v : Tree). after_from capacity (count + 1) v cs) u h in
     after_keeps capacity (count + 1) cs v u
     (elim (nat_lt count most_changes) as (λ (k : Bool). (if k then apply t (has_room capacity t) c else Err EOVERFLOW) ≡ Ok v →
     WellFormed v) [
       | true ↦ λ q. apply_keeps t v (has_room capacity t) c well q
-      | false ↦ λ q. absurd (err_is_ok EOVERFLOW v q)
+      | false ↦ λ q. absurd (err-ok EOVERFLOW v q)
     ] is) rest
 
 pub root_well : WellFormed root_alone
 root_well = record {
   distinct = tt;
   past_root = omega arith;
-  low = λ d c e h. absurd (none_is_some e h);
-  one_kind = λ d c d' c' e e' h h' same. absurd (none_is_some e h);
-  one_entry = λ d c d' c' e e' h h' same directory. absurd (none_is_some e h);
-  rooted = λ d c e h. absurd (none_is_some e h);
-  named = λ d c e h. absurd (none_is_some e h);
+  low = λ d c e h. absurd (none-some e h);
+  one_kind = λ d c d' c' e e' h h' same. absurd (none-some e h);
+  one_entry = λ d c d' c' e e' h h' same directory. absurd (none-some e h);
+  rooted = λ d c e h. absurd (none-some e h);
+  named = λ d c e h. absurd (none-some e h);
 }
 
 pub tree_after_well : (capacity : ℕ) (cs : List Change) (t : Tree) → tree_after capacity cs ≡ Ok t → WellFormed t

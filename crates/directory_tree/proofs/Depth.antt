@@ -10,7 +10,7 @@ use Rattle.std.proofs.lemmas.List.{length-map}
 use Rattle.directory_tree.specs.Tree.{Entry, root, own_entry, leads, is_directory}
 use Rattle.directory_tree.specs.Name.{name_up}
 use Rattle.directory_tree.specs.Components.{slash}
-use Rattle.directory_tree.proofs.Basics.{some_inj, none_is_some}
+use Rattle.std.proofs.lemmas.Option.{none-some, same_Some}
 
 -- a directory exactly this many steps below the root
 abbrev pub Deep : List Entry → ℕ → ℕ → Type 0
@@ -43,7 +43,7 @@ one_depth es zero zero d a b = refl
 one_depth es zero (suc m) d a (e, is, other, up) = absurd (other a)
 one_depth es (suc n) zero d (e, is, other, up) b = absurd (other b)
 one_depth es (suc n) (suc m) d (e, is, other, up) (e', is', other', up') =
-    let same : e' ≡ e = some_inj e' e (sym is' ∙ is) in
+    let same : e' ≡ e = same_Some e' e (sym is' ∙ is) in
     ap suc (one_depth es n m e.of up (subst (λ (z : Entry). Deep es m z.of) same up'))
 
 chain : (es : List Entry) (n d : ℕ) → Deep es n d → List ℕ
@@ -72,7 +72,7 @@ distinct es zero d h = tt
 distinct es (suc n) d (e, is, other, up) = (higher es d (suc n) n e.of up (e, is, other, up) (omega arith), distinct es n e.of up)
 
 has_node : (es : List Entry) (d : ℕ) (e : Entry) → own_entry es d ≡ Some e → is_member nat_eq (map (λ (x : Entry). x.node) es) d ≡ true
-has_node [] d e h = absurd (none_is_some e h)
+has_node [] d e h = absurd (none-some e h)
 has_node (y ∷ es) d e h =
     elim (y.node == d) as (λ (b : Bool). (y.node == d) ≡ b → (if b && is_directory y.kind then Some y else own_entry es d) ≡ Some e →
     (nat_eq d y.node || is_member nat_eq (map (λ (x : Entry). x.node) es) d) ≡ true) [

@@ -3,7 +3,7 @@ use Rattle.std.proofs.Common.{◌≡◌, ℕ, zero, suc, ◌<◌, ◌==◌, ◌�
 use Rattle.std.proofs.Common.{ne_eqb}
 use Rattle.std.specs.Prelude.{if◌then◌else◌}
 use Rattle.directory_tree.specs.Tree.{Tree, Entry, WellFormed, root, find, own_entry, is_below, is_directory}
-use Rattle.directory_tree.proofs.Found.{found_at}
+use Rattle.directory_tree.specs.laws.Found.{found_at}
 use Rattle.directory_tree.proofs.Depth.{Deep, deep, one_depth}
 use Rattle.directory_tree.proofs.Presence.{placed_at}
 use Rattle.directory_tree.proofs.Placement.{root_nowhere}

@@ -1,6 +1,6 @@
 -- The names of directories in a tree in which an entry moved.
 use Rattle.std.proofs.Common.{◌≡◌, ℕ, zero, suc, ◌≤◌, ◌==◌, ◌≢◌, ◌&&◌, Bool, true, false, List, [], ◌∷◌, ◌++◌, length, Some, None, Option}
-use Rattle.std.proofs.Common.{sym, refl, ap, ◌∙◌, subst, arith, append_assoc, eqb-true, eq-eqb, ne_eqb}
+use Rattle.std.proofs.Common.{sym, refl, ap, ◌∙◌, subst, arith, append_assoc, eqb-true, eq-eqb, ne_eqb, true≢false}
 use Rattle.std.specs.Prelude.{if◌then◌else◌}
 use Rattle.std.proofs.lemmas.List.{append-nil}
 use Rattle.directory_tree.specs.Components.{slash}
@@ -8,8 +8,8 @@ use Rattle.directory_tree.specs.Tree.{Tree, Entry, WellFormed, root, find, own_e
 use Rattle.directory_tree.specs.Name.{name_up, directory_name}
 use Rattle.directory_tree.specs.Place.{place_name}
 use Rattle.directory_tree.specs.Apply.{entry, moved}
-use Rattle.directory_tree.proofs.Basics.{some_inj, none_is_some, true_is_false}
-use Rattle.directory_tree.proofs.Found.{found_at, empty_none, Apart}
+use Rattle.std.proofs.lemmas.Option.{none-some, same_Some}
+use Rattle.directory_tree.specs.laws.Found.{found_at, empty_none, Apart}
 use Rattle.directory_tree.proofs.Walks.{own_entry_found}
 use Rattle.directory_tree.proofs.Depth.{Deep, shallow}
 use Rattle.directory_tree.proofs.Drops.{HasEntry}
@@ -39,7 +39,7 @@ entry_name : (t : Tree) (m x : ℕ) (e : Entry) → x ≢ root → Deep t.entrie
     (n : ℕ) × Deep t.entries n e.of × (directory_name t x ≡ place_name t e.of e.component)
 entry_name t zero x e apart h at = absurd (apart h)
 entry_name t (suc m) x e apart (z, is, other, up) at =
-    let same : z ≡ e = some_inj z e (sym is ∙ at) in
+    let same : z ≡ e = same_Some z e (sym is ∙ at) in
     let up_e : Deep t.entries m e.of = subst (λ (w : Entry). Deep t.entries m w.of) same up in
     let low = shallow t.entries (suc m) x (z, is, other, up) in (
       m,
@@ -74,7 +74,7 @@ module _ (t : Tree) (well : WellFormed t) (d : ℕ) (c : List ℕ) (into : ℕ) 
   kept_there x (q, y, there) = elim (is_gone (find t.entries into name) x) as (λ (b : Bool). is_gone (find t.entries into name) x ≡ b →
       b ≡ false) [
         | true ↦ λ g. let (e, at, node) = gone_found t into name x g in let k = node_same e x node in
-            absurd (none_is_some y (sym (empty_none t.entries e.node q (loose e at k.1)) ∙ (λ i. find t.entries (k.0 i) q) ∙ there))
+            absurd (none-some y (sym (empty_none t.entries e.node q (loose e at k.1)) ∙ (λ i. find t.entries (k.0 i) q) ∙ there))
         | false ↦ λ g. refl
       ] refl
 
@@ -144,9 +144,9 @@ module _ (t : Tree) (well : WellFormed t) (d : ℕ) (c : List ℕ) (into : ℕ) 
               (elim o as (λ _. Bool) [ None ↦ false | Some e ↦ is_below t.entries k old.node e.of ]) ≡ true
               → (rest : List ℕ) × (directory_name t x ≡ place_name t d c ++ rest)
               × (directory_name u x ≡ place_name t into name ++ rest)) [
-                | None ↦ λ at s. absurd (true_is_false (sym s))
+                | None ↦ λ at s. absurd (true≢false (sym s))
                 | Some e ↦ λ at s.
-                    let at_u = same_place x (λ p. true_is_false (sym (eq-eqb x old.node p) ∙ q)) kept ∙ at in
+                    let at_u = same_place x (λ p. true≢false (sym (eq-eqb x old.node p) ∙ q)) kept ∙ at in
                     let apart = below_root t x e well at in
                     let (i, up_e, name_e) = entry_name t m x e apart up at in
                     let (j, up_ue, name_ue) = entry_name u n x e apart up_u at_u in

@@ -1,6 +1,6 @@
 -- A new entry keeps the tree well formed.
 use Rattle.std.proofs.Common.{◌≡◌, ℕ, zero, suc, ◌+◌, ◌<◌, ◌≤◌, ◌==◌, ◌&&◌, Bool, true, false, List, [], ◌∷◌, ◌++◌, Some, None, Option}
-use Rattle.std.proofs.Common.{sym, refl, ap, ◌∙◌, subst, arith}
+use Rattle.std.proofs.Common.{sym, refl, ap, ◌∙◌, subst, arith, true≢false}
 use Rattle.std.specs.Prelude.{if◌then◌else◌}
 use mathlib.Core.Logic.{◌⊎◌, inl, inr}
 use Rattle.directory_tree.specs.declared.node.NodeKind.{NodeKind}
@@ -10,20 +10,21 @@ use Rattle.std.specs.Prelude.{Ok, Err}
 use Rattle.names.specs.declared.errors.Errno.TheVariants.{EPERM, ENOENT, EEXIST, ENOSPC}
 use Rattle.directory_tree.specs.Apply.{entry, with_entry, make, make_at, is_file, link, link_to, link_from}
 use Rattle.directory_tree.specs.Components.{IsComponent}
-use Rattle.directory_tree.proofs.Found.{find-append_old, find-append_new, at_once, is_at-same, found_at}
-use Rattle.directory_tree.proofs.Basics.{some_inj, none_is_some, ok_inj, err_is_ok, true_is_false}
+use Rattle.directory_tree.specs.laws.Found.{find-append_old, find-append_new, at_once, is_at-same, found_at}
+use Rattle.std.proofs.lemmas.Option.{none-some, same_Some}
+use Rattle.names.specs.laws.Results.{err-ok, same_Ok}
 
 Distinct-append : (es : List Entry) (e : Entry) → Distinct es → find es e.of e.component ≡ None → Distinct (es ++ e ∷ [])
 Distinct-append [] e distinct h = (refl, tt)
 Distinct-append (y ∷ es) e distinct h =
     elim (is_at e.of e.component y) as (λ (b : Bool). is_at e.of e.component y ≡ b → (if b then Some y else find es e.of e.component)
     ≡ None → Distinct (y ∷ es ++ e ∷ [])) [
-      | true ↦ λ q r. absurd (none_is_some y (sym r))
+      | true ↦ λ q r. absurd (none-some y (sym r))
       | false ↦ λ q r. (
         find-append_new es e y.of y.component distinct.0
             ∙ elim (is_at y.of y.component e) as (λ (b : Bool). is_at y.of y.component e ≡ b → (if b then Some e else None) ≡ None) [
               | true ↦ λ p. let k = at_once y.of y.component e.of e.component p in
-                  absurd (true_is_false (sym (is_at-same e.of e.component y (sym k.0) (sym k.1)) ∙ q))
+                  absurd (true≢false (sym (is_at-same e.of e.component y (sym k.0) (sym k.1)) ∙ q))
               | false ↦ λ p. refl
             ] refl,
         Distinct-append es e distinct.1 r,
@@ -31,7 +32,7 @@ Distinct-append (y ∷ es) e distinct h =
     ] refl h
 
 own_entry-append : (es : List Entry) (y : Entry) (d : ℕ) (x : Entry) → own_entry es d ≡ Some x → own_entry (es ++ y ∷ []) d ≡ Some x
-own_entry-append [] y d x h = absurd (none_is_some x h)
+own_entry-append [] y d x h = absurd (none-some x h)
 own_entry-append (z ∷ es) y d x h =
     elim ((z.node == d) && is_directory z.kind) as (λ (b : Bool). (if b then Some z else own_entry es d) ≡ Some x →
     (if b then Some z else own_entry (es ++ y ∷ []) d) ≡ Some x) [
@@ -61,8 +62,8 @@ old_or_new es e d c z h =
     elim (find es d c) as (λ (o : Option Entry). find es d c ≡ o → (find es d c ≡ Some z) ⊎ (e ≡ z)) [
       | Some x ↦ λ is. inl (is ∙ sym (find-append_old es e d c x is) ∙ h)
       | None ↦ λ is. elim (is_at d c e) as (λ (b : Bool). (if b then Some e else None) ≡ Some z → (find es d c ≡ Some z) ⊎ (e ≡ z)) [
-        | true ↦ λ q. inr (some_inj e z q)
-        | false ↦ λ q. absurd (none_is_some z q)
+        | true ↦ λ q. inr (same_Some e z q)
+        | false ↦ λ q. absurd (none-some z q)
       ] (sym (find-append_new es e d c is) ∙ h)
     ] refl
 
@@ -121,38 +122,38 @@ pub make_keeps : (t u : Tree) (room : Bool) (kind : NodeKind) (d : ℕ) (c : Lis
     IsComponent c → make t room kind d c ≡ Ok u → WellFormed u
 make_keeps t u room kind d c n well up proper h =
     elim (find t.entries d c) as (λ (o : Option Entry). find t.entries d c ≡ o → make_at t room kind d c o ≡ Ok u → WellFormed u) [
-      | Some e ↦ λ is q. absurd (err_is_ok EEXIST u q)
+      | Some e ↦ λ is q. absurd (err-ok EEXIST u q)
       | None ↦ λ is q. elim room as (λ (b : Bool). make_at t b kind d c None ≡ Ok u → WellFormed u) [
-        | true ↦ λ r. subst WellFormed (ok_inj _ u r) (add_keeps t (entry d c t.next kind) (t.next + 1) well is n up proper well.past_root
+        | true ↦ λ r. subst WellFormed (same_Ok _ u r) (add_keeps t (entry d c t.next kind) (t.next + 1) well is n up proper well.past_root
             (omega arith) (omega arith)
             (λ d' c' z hz same. let l = (well.low d' c' z hz).1 in absurd (omega arith)) (λ d' c' z hz same directory. let l =
             (well.low d' c' z hz).1 in absurd (omega arith)))
-        | false ↦ λ r. absurd (err_is_ok ENOSPC u r)
+        | false ↦ λ r. absurd (err-ok ENOSPC u r)
       ] q
     ] refl h
 
 no_directory : (k : NodeKind) → is_file k ≡ true → is_directory k ≡ true → ⊥
-no_directory Directory a b = true_is_false (sym a)
-no_directory File a b = true_is_false (sym b)
-no_directory (Link text) a b = true_is_false (sym b)
+no_directory Directory a b = true≢false (sym a)
+no_directory File a b = true≢false (sym b)
+no_directory (Link text) a b = true≢false (sym b)
 
 pub link_keeps : (t u : Tree) (room : Bool) (d : ℕ) (c : List ℕ) (into : ℕ) (name : List ℕ) (n : ℕ) → WellFormed t → leads t.entries n into
     ≡ true → IsComponent name → link t room d c into name ≡ Ok u → WellFormed u
 link_keeps t u room d c into name n well up proper h =
     elim (find t.entries d c) as (λ (o : Option Entry). find t.entries d c ≡ o → link_from t room into name o ≡ Ok u → WellFormed u) [
-      | None ↦ λ is q. absurd (err_is_ok ENOENT u q)
+      | None ↦ λ is q. absurd (err-ok ENOENT u q)
       | Some old ↦ λ is q. elim (is_file old.kind) as (λ (b : Bool). is_file old.kind ≡ b →
           (if b then link_to t room old into name (find t.entries into name) else Err EPERM) ≡ Ok u → WellFormed u) [
-            | false ↦ λ file r. absurd (err_is_ok EPERM u r)
+            | false ↦ λ file r. absurd (err-ok EPERM u r)
             | true ↦ λ file r. elim (find t.entries into name) as (λ (o : Option Entry). find t.entries into name ≡ o →
                 link_to t room old into name o ≡ Ok u → WellFormed u) [
-                  | Some e ↦ λ there s. absurd (err_is_ok EEXIST u s)
+                  | Some e ↦ λ there s. absurd (err-ok EEXIST u s)
                   | None ↦ λ free s. elim room as (λ (b : Bool). link_to t b old into name None ≡ Ok u → WellFormed u) [
-                    | true ↦ λ p. let l = well.low d c old is in subst WellFormed (ok_inj _ u p)
+                    | true ↦ λ p. let l = well.low d c old is in subst WellFormed (same_Ok _ u p)
                         (add_keeps t (entry into name old.node old.kind) t.next well free n up proper l.0 l.1 (omega arith)
                         (λ d' c' z hz same. well.one_kind d' c' d c z old hz is same)
                         (λ d' c' z hz same directory. no_directory old.kind file directory))
-                    | false ↦ λ p. absurd (err_is_ok ENOSPC u p)
+                    | false ↦ λ p. absurd (err-ok ENOSPC u p)
                   ] s
                 ] refl r
           ] refl q

@@ -1,5 +1,3 @@
-pub mod Basics
-pub mod Found
 pub mod Kept
 pub mod Depth
 pub mod Texts
@@ -23,5 +21,3 @@ pub mod Accepted
 pub mod Fronts
 pub mod Renamed
 pub mod Histories
-pub mod OneMore
-pub mod Rooms

@@ -1,6 +1,6 @@
 -- A link leads to a new entry of the file, at the place that its path named.
 use Rattle.std.proofs.Common.{◌≡◌, ℕ, ◌≤◌, Bool, true, false, List, [], ◌∷◌, ◌++◌, map, length, Some, None, Option, sym, refl, ap, ◌∙◌}
-use Rattle.std.proofs.Common.{subst, arith, length-append}
+use Rattle.std.proofs.Common.{subst, arith, length-append, true≢false}
 use Rattle.std.specs.Prelude.{if◌then◌else◌, Result, Ok, Err}
 use Rattle.std.proofs.lemmas.List.{append-nil, map-append}
 use Rattle.names.specs.declared.errors.Errno.{Errno}
@@ -19,8 +19,8 @@ use Rattle.directory_tree.specs.Name.{directory_name, name_of, judged, judged_na
 use Rattle.directory_tree.specs.Place.{place_name, named_place}
 use Rattle.directory_tree.specs.Apply.{Target, and_then, target_from, is_dots, tested, target_of, other_target, directory_at, parent_of}
 use Rattle.directory_tree.specs.Apply.{entry, with_entry, is_file, link, link_to, link_from, apply}
-use Rattle.directory_tree.proofs.Basics.{ok_inj, err_is_ok, true_is_false}
-use Rattle.directory_tree.proofs.Found.{find-append_new, is_at-same}
+use Rattle.names.specs.laws.Results.{err-ok, same_Ok}
+use Rattle.directory_tree.specs.laws.Found.{find-append_new, is_at-same}
 use Rattle.directory_tree.proofs.Texts.{steps_before}
 use Rattle.directory_tree.proofs.Walks.{step_down}
 use Rattle.directory_tree.proofs.Changes.{and_then_inv, other_good, parent_leads}
@@ -34,16 +34,16 @@ target_whole x (y ∷ ys) = ap (λ (zs : List (List ℕ)). x ∷ zs) (target_who
 -- a path that passed the tests has no slash at its end, and these are its components
 target_named : (refuse : Bool) (cs : List (List ℕ)) (a : Target) → target_of refuse cs ≡ Ok a → (refuse ≡ false)
     × (a.before ++ a.last ∷ [] ≡ cs)
-target_named refuse [] a h = absurd (err_is_ok EBUSY a h)
+target_named refuse [] a h = absurd (err-ok EBUSY a h)
 target_named refuse (x ∷ xs) a h = elim refuse as (λ (k : Bool). (if k then Err EINVAL else tested (target_from x xs)) ≡ Ok a →
     (k ≡ false) × (a.before ++ a.last ∷ [] ≡ x ∷ xs)) [
-      | true ↦ λ q. absurd (err_is_ok EINVAL a q)
+      | true ↦ λ q. absurd (err-ok EINVAL a q)
       | false ↦ λ q. elim (is_dots (target_from x xs).last) as (λ (k : Bool). (if k then Err EINVAL else Ok (target_from x xs)) ≡ Ok a →
           (false ≡ false) × (a.before ++ a.last ∷ [] ≡ x ∷ xs)) [
-            | true ↦ λ r. absurd (err_is_ok EINVAL a r)
+            | true ↦ λ r. absurd (err-ok EINVAL a r)
             | false ↦ λ r. (
               refl,
-              subst (λ (z : Target). z.before ++ z.last ∷ [] ≡ x ∷ xs) (ok_inj (target_from x xs) a r)
+              subst (λ (z : Target). z.before ++ z.last ∷ [] ≡ x ∷ xs) (same_Ok (target_from x xs) a r)
                   (target_whole x xs),
             )
           ] q
@@ -66,28 +66,28 @@ link_made t u room d c into name h =
     elim (find t.entries d c) as (λ (o : Option Entry). link_from t room into name o ≡ Ok u
     → (e : Entry) × (o ≡ Some e) × (is_file e.kind ≡ true) × (find t.entries into name ≡ None)
     × (with_entry t (entry into name e.node e.kind) t.next ≡ u)) [
-      | None ↦ λ q. absurd (err_is_ok ENOENT u q)
+      | None ↦ λ q. absurd (err-ok ENOENT u q)
       | Some e ↦ λ q. elim (is_file e.kind) as (λ (b : Bool). is_file e.kind ≡ b →
           (if b then link_to t room e into name (find t.entries into name) else Err EPERM) ≡ Ok u
           → (z : Entry) × (Some e ≡ Some z) × (is_file z.kind ≡ true) × (find t.entries into name ≡ None)
           × (with_entry t (entry into name z.node z.kind) t.next ≡ u)) [
-            | false ↦ λ file r. absurd (err_is_ok EPERM u r)
+            | false ↦ λ file r. absurd (err-ok EPERM u r)
             | true ↦ λ file r. let (free, made) = to_free e (find t.entries into name) r in (e, refl, file, free, made)
           ] refl q
     ] h
   where
     to_free : (e : Entry) (o : Option Entry) → link_to t room e into name o ≡ Ok u →
         (o ≡ None) × (with_entry t (entry into name e.node e.kind) t.next ≡ u)
-    to_free e (Some z) r = absurd (err_is_ok EEXIST u r)
+    to_free e (Some z) r = absurd (err-ok EEXIST u r)
     to_free e None r = elim room as (λ (b : Bool). (if b then Ok (with_entry t (entry into name e.node e.kind) t.next) else Err ENOSPC)
         ≡ Ok u → (let n : Option Entry = None in n ≡ None) × (with_entry t (entry into name e.node e.kind) t.next ≡ u)) [
-          | true ↦ λ p. (refl, ok_inj _ u p)
-          | false ↦ λ p. absurd (err_is_ok ENOSPC u p)
+          | true ↦ λ p. (refl, same_Ok _ u p)
+          | false ↦ λ p. absurd (err-ok ENOSPC u p)
         ] r
 
 -- a file isn't a directory
 file_other : (k : NodeKind) → is_file k ≡ true → is_directory k ≡ false
-file_other Directory h = absurd (true_is_false (sym h))
+file_other Directory h = absurd (true≢false (sym h))
 file_other File h = refl
 file_other (Link text) h = refl
 

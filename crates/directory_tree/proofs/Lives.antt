@@ -8,7 +8,7 @@ use Rattle.directory_tree.specs.declared.node.NodeKind.TheVariants.{Directory}
 use Rattle.directory_tree.specs.declared.change.Change.{Change}
 use Rattle.directory_tree.specs.Tree.{Tree, Entry, WellFormed, root, find, entry_kind, kind_of}
 use Rattle.directory_tree.specs.Apply.{apply}
-use Rattle.directory_tree.proofs.Basics.{none_is_some}
+use Rattle.std.proofs.lemmas.Option.{none-some}
 use Rattle.directory_tree.proofs.NodeKinds.{kind_by_entry, kind_found}
 use Rattle.directory_tree.proofs.Changes.{apply_keeps}
 use Rattle.directory_tree.proofs.Origins.{HasNode, apply_comes}
@@ -38,8 +38,8 @@ module _ (t : Tree) (well : WellFormed t) where
       ↔ ((n ≢ root) × ((d : ℕ) (c : List ℕ) (e : Entry) → find t.entries d c ≡ Some e → e.node ≢ n))
   gone_without_entry n = (
     (λ h. (
-      (λ p. none_is_some Directory (sym h ∙ root_kind n p)),
-      (λ d c e is node. none_is_some e.kind (sym h ∙ kind_there n e.kind (d, c, e, is, node, refl))),
+      (λ p. none-some Directory (sym h ∙ root_kind n p)),
+      (λ d c e is node. none-some e.kind (sym h ∙ kind_there n e.kind (d, c, e, is, node, refl))),
     )),
     (λ h. elim (kind_of t n) as (λ (o : Option NodeKind). kind_of t n ≡ o → o ≡ None) [
       | None ↦ λ is. refl
@@ -84,6 +84,6 @@ kept_or_gone t u room change n kind well h stood =
 pub new_is_next : (t u : Tree) (room : Bool) (change : Change) (n : ℕ) (kind : NodeKind) → WellFormed t → apply t room change ≡ Ok u →
     kind_of t n ≡ None → kind_of u n ≡ Some kind → (n ≡ t.next) × (u.next ≡ t.next + 1)
 new_is_next t u room change n kind well h none is = elim (came t u room change n kind well h is) [
-  | inl same ↦ absurd (none_is_some kind (sym none ∙ same))
+  | inl same ↦ absurd (none-some kind (sym none ∙ same))
   | inr new ↦ new
 ]

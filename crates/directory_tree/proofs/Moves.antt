@@ -1,13 +1,13 @@
 -- An entry that moves leaves the tree well-formed.
 use Rattle.std.proofs.Common.{◌≡◌, ℕ, zero, suc, ◌<◌, ◌≤◌, ◌==◌, ◌≢◌, ◌&&◌, Bool, true, false, List, [], ◌∷◌, Some, None, Option, sym}
-use Rattle.std.proofs.Common.{refl, ap, ◌∙◌, subst, arith, eq-eqb, ne_eqb}
+use Rattle.std.proofs.Common.{refl, ap, ◌∙◌, subst, arith, eq-eqb, ne_eqb, true≢false}
 use Rattle.std.specs.Prelude.{if◌then◌else◌}
 use mathlib.Core.Logic.{◌⊎◌, inl, inr}
 use Rattle.directory_tree.specs.Components.{IsComponent}
 use Rattle.directory_tree.specs.Tree.{Tree, Entry, WellFormed, Distinct, root, find, own_entry, leads, is_at, is_directory, is_below}
 use Rattle.directory_tree.specs.Apply.{entry, placed, place_one}
-use Rattle.directory_tree.proofs.Found.{found_at, at_once, is_at-same, Apart, find-placed_new, find-placed_old, find-placed_else, put_at}
-use Rattle.directory_tree.proofs.Basics.{some_inj, none_is_some, true_is_false}
+use Rattle.directory_tree.specs.laws.Found.{found_at, at_once, is_at-same, Apart, find-placed_new, find-placed_old, find-placed_else, put_at}
+use Rattle.std.proofs.lemmas.Option.{none-some, same_Some}
 use Rattle.directory_tree.proofs.Walks.{own_entry_found}
 use Rattle.directory_tree.proofs.Depth.{Deep, deep}
 use Rattle.directory_tree.proofs.Drops.{apart_from, at_key}
@@ -24,12 +24,12 @@ not_below es a (suc m) (suc k) d (e, is, other, up) low h =
     elim (d == a) as (λ (b : Bool). (d == a) ≡ b →
     (if b then true else elim (own_entry es d) as (λ _. Bool) [ None ↦ false | Some e ↦ is_below es k a e.of ]) ≡ false →
     Avoids es a (suc m) d) [
-      | true ↦ λ q r. absurd (true_is_false r)
+      | true ↦ λ q r. absurd (true≢false r)
       | false ↦ λ q r. (
         e,
         is,
         other,
-        (λ p. true_is_false (sym (eq-eqb d a p) ∙ q)),
+        (λ p. true≢false (sym (eq-eqb d a p) ∙ q)),
         not_below es a m k e.of up (omega arith)
             (sym (ap (λ (o : Option Entry). elim o as (λ _. Bool) [ None ↦ false | Some e ↦ is_below es k a e.of ]) is) ∙ r),
       )
@@ -49,13 +49,13 @@ same_node d c into name e = elim (is_at d c e) as (λ (b : Bool). ((if b then en
 
 own_entry-placed : (d : ℕ) (c : List ℕ) (into : ℕ) (name : List ℕ) (es : List Entry) (x : ℕ) (e : Entry) → own_entry es x ≡ Some e →
     own_entry (placed d c into name es) x ≡ Some (place_one d c into name e)
-own_entry-placed d c into name [] x e h = absurd (none_is_some e h)
+own_entry-placed d c into name [] x e h = absurd (none-some e h)
 own_entry-placed d c into name (y ∷ es) x e h =
     let k = same_node d c into name y in
     (λ i. if (k.0 i == x) && is_directory (k.1 i) then Some (place_one d c into name y) else own_entry (placed d c into name es) x)
     ∙ elim ((y.node == x) && is_directory y.kind) as (λ (b : Bool). (if b then Some y else own_entry es x) ≡ Some e →
     (if b then Some (place_one d c into name y) else own_entry (placed d c into name es) x) ≡ Some (place_one d c into name e)) [
-      | true ↦ λ q. ap (λ (z : Entry). Some (place_one d c into name z)) (some_inj y e q)
+      | true ↦ λ q. ap (λ (z : Entry). Some (place_one d c into name z)) (same_Some y e q)
       | false ↦ λ q. own_entry-placed d c into name es x e q
     ] h
 
@@ -72,7 +72,7 @@ module _ (u : Tree) (well : WellFormed u) (d : ℕ) (c : List ℕ) (into : ℕ) 
   new = entry into name old.node old.kind
 
   other : Apart d c into name
-  other = λ a b. none_is_some old (sym free ∙ (λ i. find es (a i) (b i)) ∙ is)
+  other = λ a b. none-some old (sym free ∙ (λ i. find es (a i) (b i)) ∙ is)
 
   -- an entry of a key that is free of both places
   stays_at : (y : Entry) (rest : List Entry) → find (y ∷ rest) into name ≡ None → find rest y.of y.component ≡ None →
@@ -80,7 +80,7 @@ module _ (u : Tree) (well : WellFormed u) (d : ℕ) (c : List ℕ) (into : ℕ) 
   stays_at y rest none single more =
       elim (is_at into name y) as (λ (b : Bool). is_at into name y ≡ b → (if b then Some y else find rest into name) ≡ None →
       Distinct (placed d c into name (y ∷ rest))) [
-        | true ↦ λ p r. absurd (none_is_some y (sym r))
+        | true ↦ λ p r. absurd (none-some y (sym r))
         | false ↦ λ p r. elim (is_at d c y) as (λ (b : Bool). is_at d c y ≡ b →
             Distinct ((if b then entry into name y.node y.kind else y) ∷ placed d c into name rest)) [
               | true ↦ λ q. let k = at_once d c y.of y.component q in (
@@ -90,7 +90,7 @@ module _ (u : Tree) (well : WellFormed u) (d : ℕ) (c : List ℕ) (into : ℕ) 
               )
               | false ↦ λ q. (
                 find-placed_else d c into name other rest y.of y.component
-                    (λ a b. true_is_false (sym (is_at-same d c y a b) ∙ q)) (λ a b. true_is_false (sym (is_at-same into name y a b) ∙ p))
+                    (λ a b. true≢false (sym (is_at-same d c y a b) ∙ q)) (λ a b. true≢false (sym (is_at-same into name y a b) ∙ p))
                     ∙ single,
                 more,
               )
@@ -100,7 +100,7 @@ module _ (u : Tree) (well : WellFormed u) (d : ℕ) (c : List ℕ) (into : ℕ) 
   none_rest : (y : Entry) (rest : List Entry) → find (y ∷ rest) into name ≡ None → find rest into name ≡ None
   none_rest y rest h = elim (is_at into name y) as (λ (b : Bool). (if b then Some y else find rest into name) ≡ None →
       find rest into name ≡ None) [
-        | true ↦ λ q. absurd (none_is_some y (sym q))
+        | true ↦ λ q. absurd (none-some y (sym q))
         | false ↦ λ q. q
       ] h
 
@@ -117,13 +117,13 @@ module _ (u : Tree) (well : WellFormed u) (d : ℕ) (c : List ℕ) (into : ℕ) 
         | true ↦ λ q. let k = at_key after into name d' c' z h q in
             inr (
               k.0,
-              some_inj z new (sym h ∙ (λ i. find after (k.0 i) (k.1 i)) ∙ find-placed_new d c into name other es free
+              same_Some z new (sym h ∙ (λ i. find after (k.0 i) (k.1 i)) ∙ find-placed_new d c into name other es free
                   ∙ ap (put_at into name) is),
             )
         | false ↦ λ q. elim (is_at d c z) as (λ (b : Bool). is_at d c z ≡ b → ((find es d' c' ≡ Some z) × (b ≡ false))
             ⊎ ((d' ≡ into) × (z ≡ new))) [
               | true ↦ λ r. let k = at_key after d c d' c' z h r in
-                  absurd (none_is_some z (sym (find-placed_old d c into name other es) ∙ sym (λ i. find after (k.0 i) (k.1 i)) ∙ h))
+                  absurd (none-some z (sym (find-placed_old d c into name other es) ∙ sym (λ i. find after (k.0 i) (k.1 i)) ∙ h))
               | false ↦ λ r. inl (
                 sym (find-placed_else d c into name other es d' c' (apart_from after d c d' c' z h r)
                     (apart_from after into name d' c' z h q)) ∙ h,
@@ -141,7 +141,7 @@ module _ (u : Tree) (well : WellFormed u) (d : ℕ) (c : List ℕ) (into : ℕ) 
       ∙ ap (climb n) (own_entry-placed d c into name es x e at)
 
   is_old : (x : ℕ) (e : Entry) → own_entry es x ≡ Some e → is_at d c e ≡ true → e ≡ old
-  is_old x e at q = let k = at_once d c e.of e.component q in some_inj e old (sym (own_entry_found es x e well.distinct at).found
+  is_old x e at q = let k = at_once d c e.of e.component q in same_Some e old (sym (own_entry_found es x e well.distinct at).found
       ∙ (λ i. find es (k.0 i) (k.1 i)) ∙ is)
 
   avoid_leads : (n x : ℕ) → Avoids es old.node n x → leads after n x ≡ true
@@ -191,13 +191,13 @@ module _ (u : Tree) (well : WellFormed u) (d : ℕ) (c : List ℕ) (into : ℕ) 
       | inl a ↦ elim (after_found d'' c'' y hy) [
         | inl b ↦ well.one_entry d' c' d'' c'' x y a.0 b.0 same directory
         | inr b ↦ let e : x ≡ old = well.one_entry d' c' d c x old a.0 is (same ∙ ap (λ (w : Entry). w.node) b.1) directory in
-            absurd (true_is_false (sym (ap (is_at d c) e ∙ old_at) ∙ a.1))
+            absurd (true≢false (sym (ap (is_at d c) e ∙ old_at) ∙ a.1))
       ]
       | inr a ↦ elim (after_found d'' c'' y hy) [
         | inl b ↦
             let e : old ≡ y = well.one_entry d c d'' c'' old y is b.0 (sym (ap (λ (w : Entry). w.node) a.1) ∙ same)
             (ap (λ (w : Entry). is_directory w.kind) (sym a.1) ∙ directory) in
-            absurd (true_is_false (sym (ap (is_at d c) (sym e) ∙ old_at) ∙ b.1))
+            absurd (true≢false (sym (ap (is_at d c) (sym e) ∙ old_at) ∙ b.1))
         | inr b ↦ a.1 ∙ sym b.1
       ]
     ];

@@ -1,5 +1,5 @@
 -- Where an entry of a tree after a change comes from.
-use Rattle.std.proofs.Common.{◌≡◌, ℕ, ◌+◌, ◌==◌, Bool, true, false, List, Some, None, Option, sym, refl, ap, ◌∙◌, subst, eq-eqb}
+use Rattle.std.proofs.Common.{◌≡◌, ℕ, ◌+◌, ◌==◌, Bool, true, false, List, Some, None, Option, sym, refl, ap, ◌∙◌, subst, eq-eqb, true≢false}
 use Rattle.std.specs.Prelude.{if◌then◌else◌, Result, Ok, Err}
 use mathlib.Core.Logic.{◌⊎◌, inl, inr}
 use Rattle.names.specs.declared.errors.Errno.{Errno}
@@ -13,8 +13,9 @@ use Rattle.directory_tree.specs.Apply.{and_then, at_one, entry, with_entry, make
 use Rattle.directory_tree.specs.Apply.{unlink, unlink_at, rmdir, rmdir_at, moved, goes_below, onto_kind, rename, rename_from, rename_onto}
 use Rattle.directory_tree.specs.Apply.{directory_target, other_target, text_of, apply}
 use Rattle.directory_tree.proofs.Accepted.{gives_way}
-use Rattle.directory_tree.proofs.Basics.{some_inj, none_is_some, ok_inj, err_is_ok, true_is_false}
-use Rattle.directory_tree.proofs.Found.{Apart}
+use Rattle.std.proofs.lemmas.Option.{none-some, same_Some}
+use Rattle.names.specs.laws.Results.{err-ok, same_Ok}
+use Rattle.directory_tree.specs.laws.Found.{Apart}
 use Rattle.directory_tree.proofs.Drops.{without_old}
 use Rattle.directory_tree.proofs.Actions.{acts_one, acts_two}
 use Rattle.directory_tree.proofs.Placement.{is_key, find_entered, after_moved}
@@ -41,7 +42,7 @@ comes_entered : (t : Tree) (x : Entry) (next : ℕ) → find t.entries x.of x.co
 comes_entered t x next free from d c z h =
     elim (is_key x.of x.component d c) as (λ (b : Bool). (if b then Some x else find t.entries d c) ≡ Some z →
     Origin t (with_entry t x next) z) [
-      | true ↦ λ q. subst (Origin t (with_entry t x next)) (some_inj x z q) from
+      | true ↦ λ q. subst (Origin t (with_entry t x next)) (same_Some x z q) from
       | false ↦ λ q. inl (d, c, z, q, refl, refl)
     ] (sym (find_entered t x next free d c) ∙ h)
 
@@ -61,10 +62,10 @@ comes_moved t of c into name old is other d q z h = elim (after_moved t of c int
 make_comes : (t u : Tree) (room : Bool) (kind : NodeKind) (d : ℕ) (c : List ℕ) → make t room kind d c ≡ Ok u → Comes t u
 make_comes t u room kind d c h =
     elim (find t.entries d c) as (λ (o : Option Entry). find t.entries d c ≡ o → make_at t room kind d c o ≡ Ok u → Comes t u) [
-      | Some e ↦ λ is q. absurd (err_is_ok EEXIST u q)
+      | Some e ↦ λ is q. absurd (err-ok EEXIST u q)
       | None ↦ λ is q. elim room as (λ (b : Bool). make_at t b kind d c None ≡ Ok u → Comes t u) [
-        | true ↦ λ r. subst (Comes t) (ok_inj _ u r) (comes_entered t (entry d c t.next kind) (t.next + 1) is (inr (refl, refl)))
-        | false ↦ λ r. absurd (err_is_ok ENOSPC u r)
+        | true ↦ λ r. subst (Comes t) (same_Ok _ u r) (comes_entered t (entry d c t.next kind) (t.next + 1) is (inr (refl, refl)))
+        | false ↦ λ r. absurd (err-ok ENOSPC u r)
       ] q
     ] refl h
 
@@ -72,17 +73,17 @@ make_comes t u room kind d c h =
 link_comes : (t u : Tree) (room : Bool) (d : ℕ) (c : List ℕ) (into : ℕ) (name : List ℕ) → link t room d c into name ≡ Ok u → Comes t u
 link_comes t u room d c into name h =
     elim (find t.entries d c) as (λ (o : Option Entry). find t.entries d c ≡ o → link_from t room into name o ≡ Ok u → Comes t u) [
-      | None ↦ λ is q. absurd (err_is_ok ENOENT u q)
+      | None ↦ λ is q. absurd (err-ok ENOENT u q)
       | Some old ↦ λ is q. elim (is_file old.kind) as
           (λ (b : Bool). (if b then link_to t room old into name (find t.entries into name) else Err EPERM) ≡ Ok u → Comes t u) [
-            | false ↦ λ r. absurd (err_is_ok EPERM u r)
+            | false ↦ λ r. absurd (err-ok EPERM u r)
             | true ↦ λ r. elim (find t.entries into name) as (λ (o : Option Entry). find t.entries into name ≡ o →
                 link_to t room old into name o ≡ Ok u → Comes t u) [
-                  | Some e ↦ λ there s. absurd (err_is_ok EEXIST u s)
+                  | Some e ↦ λ there s. absurd (err-ok EEXIST u s)
                   | None ↦ λ free s. elim room as (λ (b : Bool). link_to t b old into name None ≡ Ok u → Comes t u) [
-                    | true ↦ λ p. subst (Comes t) (ok_inj _ u p) (comes_entered t (entry into name old.node old.kind) t.next free
+                    | true ↦ λ p. subst (Comes t) (same_Ok _ u p) (comes_entered t (entry into name old.node old.kind) t.next free
                         (inl (d, c, old, is, refl, refl)))
-                    | false ↦ λ p. absurd (err_is_ok ENOSPC u p)
+                    | false ↦ λ p. absurd (err-ok ENOSPC u p)
                   ] s
                 ] refl r
           ] q
@@ -92,10 +93,10 @@ link_comes t u room d c into name h =
 unlink_comes : (t u : Tree) (d : ℕ) (c : List ℕ) → unlink t d c ≡ Ok u → Comes t u
 unlink_comes t u d c h =
     elim (find t.entries d c) as (λ (o : Option Entry). unlink_at t d c o ≡ Ok u → Comes t u) [
-      | None ↦ λ q. absurd (err_is_ok ENOENT u q)
+      | None ↦ λ q. absurd (err-ok ENOENT u q)
       | Some e ↦ λ q. elim (is_directory e.kind) as (λ (b : Bool). (if b then Err EISDIR else Ok (dropped t d c)) ≡ Ok u → Comes t u) [
-        | true ↦ λ r. absurd (err_is_ok EISDIR u r)
-        | false ↦ λ r. subst (Comes t) (ok_inj _ u r) (comes_dropped t d c)
+        | true ↦ λ r. absurd (err-ok EISDIR u r)
+        | false ↦ λ r. subst (Comes t) (same_Ok _ u r) (comes_dropped t d c)
       ] q
     ] h
 
@@ -103,16 +104,16 @@ unlink_comes t u d c h =
 rmdir_comes : (t u : Tree) (d : ℕ) (c : List ℕ) → rmdir t d c ≡ Ok u → Comes t u
 rmdir_comes t u d c h =
     elim (find t.entries d c) as (λ (o : Option Entry). rmdir_at t d c o ≡ Ok u → Comes t u) [
-      | None ↦ λ q. absurd (err_is_ok ENOENT u q)
+      | None ↦ λ q. absurd (err-ok ENOENT u q)
       | Some e ↦ λ q. elim (is_directory e.kind) as
           (λ (b : Bool). (if b then (if is_empty t.entries e.node then Ok (dropped t d c) else Err ENOTEMPTY) else Err ENOTDIR) ≡ Ok u →
           Comes t u) [
             | true ↦ λ r. elim (is_empty t.entries e.node) as (λ (b : Bool). (if b then Ok (dropped t d c) else Err ENOTEMPTY) ≡ Ok u →
                 Comes t u) [
-                  | true ↦ λ s. subst (Comes t) (ok_inj _ u s) (comes_dropped t d c)
-                  | false ↦ λ s. absurd (err_is_ok ENOTEMPTY u s)
+                  | true ↦ λ s. subst (Comes t) (same_Ok _ u s) (comes_dropped t d c)
+                  | false ↦ λ s. absurd (err-ok ENOTEMPTY u s)
                 ] r
-            | false ↦ λ r. absurd (err_is_ok ENOTDIR u r)
+            | false ↦ λ r. absurd (err-ok ENOTDIR u r)
           ] q
     ] h
 
@@ -120,29 +121,29 @@ rmdir_comes t u d c h =
 rename_comes : (t u : Tree) (d : ℕ) (c : List ℕ) (into : ℕ) (name : List ℕ) → rename t d c into name ≡ Ok u → Comes t u
 rename_comes t u d c into name h =
     elim (find t.entries d c) as (λ (o : Option Entry). find t.entries d c ≡ o → rename_from t d c into name o ≡ Ok u → Comes t u) [
-      | None ↦ λ is q. absurd (err_is_ok ENOENT u q)
+      | None ↦ λ is q. absurd (err-ok ENOENT u q)
       | Some old ↦ λ is q. elim (find t.entries into name) as (λ (o : Option Entry). find t.entries into name ≡ o →
           rename_onto t old into (Ok (moved t d c into name)) o ≡ Ok u → Comes t u) [
             | None ↦ λ free r. elim (goes_below t.entries old into) as
                 (λ (b : Bool). (if b then Err EINVAL else Ok (moved t d c into name))
                 ≡ Ok u → Comes t u) [
-                  | true ↦ λ s. absurd (err_is_ok EINVAL u s)
-                  | false ↦ λ s. subst (Comes t) (ok_inj _ u s)
-                      (comes_moved t d c into name old is (λ a b. none_is_some old (sym free ∙ (λ i. find t.entries (a i) (b i)) ∙ is)))
+                  | true ↦ λ s. absurd (err-ok EINVAL u s)
+                  | false ↦ λ s. subst (Comes t) (same_Ok _ u s)
+                      (comes_moved t d c into name old is (λ a b. none-some old (sym free ∙ (λ i. find t.entries (a i) (b i)) ∙ is)))
                 ] r
             | Some new ↦ λ there r. elim (new.node == old.node) as (λ (b : Bool). (new.node == old.node) ≡ b →
                 (if b then Ok t else (if goes_below t.entries old into then Err EINVAL else onto_kind t.entries old new
                 (Ok (moved t d c into name)))) ≡ Ok u → Comes t u) [
-                  | true ↦ λ same s. comes_same t u (ok_inj t u s)
+                  | true ↦ λ same s. comes_same t u (same_Ok t u s)
                   | false ↦ λ same s. elim (goes_below t.entries old into) as
                       (λ (b : Bool). (if b then Err EINVAL else onto_kind t.entries old new (Ok (moved t d c into name))) ≡ Ok u →
                       Comes t u) [
-                        | true ↦ λ p. absurd (err_is_ok EINVAL u p)
+                        | true ↦ λ p. absurd (err-ok EINVAL u p)
                         | false ↦ λ p.
                             let other : Apart d c into name =
-                            λ a b. true_is_false
+                            λ a b. true≢false
                             (sym (eq-eqb new.node old.node
-                            (ap (λ (z : Entry). z.node) (some_inj new old (sym there ∙ (λ i. find t.entries (a i) (b i)) ∙ is))))
+                            (ap (λ (z : Entry). z.node) (same_Some new old (sym there ∙ (λ i. find t.entries (a i) (b i)) ∙ is))))
                             ∙ same) in
                             subst (Comes t) (gives_way (is_directory old.kind) (is_directory new.kind) (is_empty t.entries new.node)
                             (moved t d c into name) u p).0 (comes_moved t d c into name old is other)
@@ -160,7 +161,7 @@ apply_comes t u room (change.Create path) h = let (d, c, q) = acts_one t u (othe
 apply_comes t u room (change.Symlink text path) h =
     elim (text_of text) as (λ (r : Result (List ℕ) Errno). and_then r (λ bytes. at_one t (other_target path) (make t room (Link bytes)))
     ≡ Ok u → Comes t u) [
-      | Err e ↦ λ q. absurd (err_is_ok e u q)
+      | Err e ↦ λ q. absurd (err-ok e u q)
       | Ok bytes ↦ λ q. let (d, c, r) = acts_one t u (other_target path) (make t room (Link bytes)) q in
           make_comes t u room (Link bytes) d c r
     ] h

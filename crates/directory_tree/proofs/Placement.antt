@@ -1,13 +1,15 @@
 -- The place of a directory, by what is found; and what is found after each change, at every place.
 use Rattle.std.proofs.Common.{◌≡◌, ℕ, suc, ◌+◌, ◌==◌, ◌&&◌, Bool, true, false, List, [], ◌∷◌, ◌++◌, length, Some, None, Option, sym, refl}
-use Rattle.std.proofs.Common.{ap, ◌∙◌, arith, eqb-true, eq-eqb}
+use Rattle.std.proofs.Common.{ap, ◌∙◌, arith, eqb-true, eq-eqb, true≢false}
 use Rattle.std.specs.Prelude.{if◌then◌else◌, bytes_eq}
 use mathlib.Core.Logic.{◌⊎◌, inl, inr}
 use Rattle.directory_tree.specs.Tree.{Tree, Entry, WellFormed, Distinct, root, find, own_entry, is_at, is_directory, is_empty}
 use Rattle.directory_tree.specs.Apply.{entry, with_entry, without, dropped, placed, moved}
-use Rattle.directory_tree.proofs.Basics.{some_inj, none_is_some, true_is_false, both_true, bytes_true, bytes_same}
-use Rattle.directory_tree.proofs.Found.{found_at, at_once, is_at-same, Apart, put_at, find-append_old, find-append_new, find-without_same}
-use Rattle.directory_tree.proofs.Found.{find-without_other, find-placed_new, find-placed_old, find-placed_else, without-none}
+use Rattle.std.proofs.lemmas.Option.{none-some, same_Some}
+use Rattle.std.proofs.lemmas.Bool.{and_parts}
+use Rattle.std.proofs.lemmas.Slice.Eq.{bytes_eq-Decides}
+use Rattle.directory_tree.specs.laws.Found.{found_at, at_once, is_at-same, Apart, put_at, find-append_old, find-append_new, find-without_same}
+use Rattle.directory_tree.specs.laws.Found.{find-without_other, find-placed_new, find-placed_old, find-placed_else, without-none}
 use Rattle.directory_tree.proofs.Walks.{IsPlace, own_entry_found}
 use Rattle.directory_tree.proofs.Presence.{placed_at}
 use Rattle.directory_tree.proofs.Drops.{without_old}
@@ -17,10 +19,10 @@ abbrev pub is_key : ℕ → List ℕ → ℕ → List ℕ → Bool
 is_key of c d q = (of == d) && bytes_eq c q
 
 pub key_apart : (of : ℕ) (c : List ℕ) (d : ℕ) (q : List ℕ) → is_key of c d q ≡ false → Apart of c d q
-key_apart of c d q h = λ a b. true_is_false (sym ((λ i. eq-eqb of d (sym a) i && bytes_same c q (sym b) i)) ∙ h)
+key_apart of c d q h = λ a b. true≢false (sym ((λ i. eq-eqb of d (sym a) i && (bytes_eq-Decides c q).1 (sym b) i)) ∙ h)
 
 pub key_same : (of : ℕ) (c : List ℕ) (d : ℕ) (q : List ℕ) → is_key of c d q ≡ true → (of ≡ d) × (c ≡ q)
-key_same of c d q h = let k = both_true (of == d) (bytes_eq c q) h in (eqb-true of d k.0, bytes_true c q k.1)
+key_same of c d q h = let k = and_parts (of == d) (bytes_eq c q) h in (eqb-true of d k.0, (bytes_eq-Decides c q).0 k.1)
 
 pub own_entry_some : (t : Tree) (d : ℕ) (e : Entry) → WellFormed t → IsPlace t.entries d e → own_entry t.entries d ≡ Some e
 own_entry_some t d e well p = ap (own_entry t.entries) (sym p.node) ∙ placed_at t well e.of e.component e p.found p.directory
@@ -35,7 +37,7 @@ pub own_entry_same : (t u : Tree) (d : ℕ) → WellFormed t → WellFormed u �
     ((e : Entry) → IsPlace u.entries d e → IsPlace t.entries d e) → own_entry u.entries d ≡ own_entry t.entries d
 own_entry_same t u d well_t well_u there back = elim (own_entry u.entries d) as (λ (o : Option Entry). own_entry u.entries d ≡ o →
     o ≡ own_entry t.entries d) [
-      | None ↦ λ is. sym (own_entry_none t d well_t (λ e p. none_is_some e (sym is ∙ own_entry_some u d e well_u (there e p))))
+      | None ↦ λ is. sym (own_entry_none t d well_t (λ e p. none-some e (sym is ∙ own_entry_some u d e well_u (there e p))))
       | Some e ↦ λ is. sym (own_entry_some t d e well_t (back e (own_entry_found u.entries d e well_u.distinct is)))
     ] refl
 
@@ -49,11 +51,11 @@ abbrev pub is_node : Entry → ℕ → Bool
 is_node e d = (e.node == d) && is_directory e.kind
 
 pub node_same : (e : Entry) (d : ℕ) → is_node e d ≡ true → (e.node ≡ d) × (is_directory e.kind ≡ true)
-node_same e d h = let k = both_true (e.node == d) (is_directory e.kind) h in (eqb-true e.node d k.0, k.1)
+node_same e d h = let k = and_parts (e.node == d) (is_directory e.kind) h in (eqb-true e.node d k.0, k.1)
 
 pub node_other : (es : List Entry) (e z : Entry) (d : ℕ) → is_node e d ≡ false → IsPlace es d z → z.node ≡ e.node → z.kind ≡ e.kind → ⊥
 node_other es e z d h p node kind =
-    true_is_false (sym (λ i. eq-eqb e.node d (sym node ∙ p.node) i && (sym (ap is_directory kind) ∙ p.directory) i) ∙ h)
+    true≢false (sym (λ i. eq-eqb e.node d (sym node ∙ p.node) i && (sym (ap is_directory kind) ∙ p.directory) i) ∙ h)
 
 -- a new entry
 module _ (t : Tree) (x : Entry) (next : ℕ) (free : find t.entries x.of x.component ≡ None) where
@@ -65,7 +67,7 @@ module _ (t : Tree) (x : Entry) (next : ℕ) (free : find t.entries x.of x.compo
         | Some e ↦ λ is. find-append_old t.entries x d q e is ∙ elim (is_key x.of x.component d q) as
             (λ (b : Bool). is_key x.of x.component d q ≡ b → Some e ≡ (if b then Some x else Some e)) [
               | true ↦ λ h. let k = key_same x.of x.component d q h in
-                  absurd (none_is_some e (sym free ∙ (λ i. find t.entries (k.0 i) (k.1 i)) ∙ is))
+                  absurd (none-some e (sym free ∙ (λ i. find t.entries (k.0 i) (k.1 i)) ∙ is))
               | false ↦ λ h. refl
             ] refl
       ] refl
@@ -74,7 +76,7 @@ module _ (t : Tree) (x : Entry) (next : ℕ) (free : find t.entries x.of x.compo
   entered_old e h = elim (is_key x.of x.component e.of e.component) as
       (λ (b : Bool). (if b then Some x else find t.entries e.of e.component) ≡ Some e → (find t.entries e.of e.component ≡ Some e)
       ⊎ (x ≡ e)) [
-        | true ↦ λ k. inr (some_inj x e k)
+        | true ↦ λ k. inr (same_Some x e k)
         | false ↦ λ k. inl k
       ] (sym (find_entered e.of e.component) ∙ h)
 
@@ -110,7 +112,7 @@ module _ (t : Tree) (of : ℕ) (c : List ℕ) (e : Entry) (is : find t.entries o
   -- what is at this key is e
   at_e : WellFormed t → (z : Entry) → is_key of c z.of z.component ≡ true → find t.entries z.of z.component ≡ Some z → z ≡ e
   at_e well z h found = let k = key_same of c z.of z.component h in
-      some_inj z e (sym found ∙ sym (λ i. find t.entries (k.0 i) (k.1 i)) ∙ is)
+      same_Some z e (sym found ∙ sym (λ i. find t.entries (k.0 i) (k.1 i)) ∙ is)
 
   pub own_entry_dropped : WellFormed t → WellFormed (dropped t of c) → (d : ℕ) → own_entry (without of c t.entries) d
       ≡ (if is_node e d then None else own_entry t.entries d)
@@ -121,7 +123,7 @@ module _ (t : Tree) (of : ℕ) (c : List ℕ) (e : Entry) (is : find t.entries o
             let old = without_old t.entries of c z.of z.component z p.found in
             let same : z ≡ e = well_t.one_entry z.of z.component of c z e old is (p.node ∙ sym k.0) p.directory in
             let at = found_at t.entries of c e is in
-            none_is_some z (sym (find-without_same t.entries of c)
+            none-some z (sym (find-without_same t.entries of c)
             ∙ sym (λ i. find (without of c t.entries) ((ap (λ (w : Entry). w.of) same ∙ at.0) i)
             ((ap (λ (w : Entry). w.component) same ∙ at.1) i)) ∙ p.found))
         | false ↦ λ h. own_entry_same t (dropped t of c) d well_t well_u
@@ -148,7 +150,7 @@ pub gone_found : (t : Tree) (into : ℕ) (name : List ℕ) (d : ℕ) → is_gone
     (e : Entry) × (find t.entries into name ≡ Some e) × (is_node e d ≡ true)
 gone_found t into name d h = elim (find t.entries into name) as (λ (o : Option Entry). find t.entries into name ≡ o → is_gone o d ≡ true →
     (e : Entry) × (find t.entries into name ≡ Some e) × (is_node e d ≡ true)) [
-      | None ↦ λ there g. absurd (true_is_false (sym g))
+      | None ↦ λ there g. absurd (true≢false (sym g))
       | Some e ↦ λ there g. (e, there, g)
     ] refl h
 
@@ -190,10 +192,10 @@ module _ (t : Tree) (of : ℕ) (c : List ℕ) (into : ℕ) (name : List ℕ) (ol
   after_moved d q z h = elim (is_key into name d q) as (λ (b : Bool). is_key into name d q ≡ b →
       (if b then Some new else (if is_key of c d q then None else find t.entries d q)) ≡ Some z →
       (z ≡ new) ⊎ ((find t.entries d q ≡ Some z) × (is_key of c d q ≡ false) × (b ≡ false))) [
-        | true ↦ λ k g. inl (sym (some_inj new z g))
+        | true ↦ λ k g. inl (sym (same_Some new z g))
         | false ↦ λ k g. elim (is_key of c d q) as (λ (b : Bool). (if b then None else find t.entries d q) ≡ Some z →
             (z ≡ new) ⊎ ((find t.entries d q ≡ Some z) × (b ≡ false) × (false ≡ false))) [
-              | true ↦ λ r. absurd (none_is_some z r)
+              | true ↦ λ r. absurd (none-some z r)
               | false ↦ λ r. inr (r, refl, refl)
             ] g
       ] refl (sym (find_moved d q) ∙ h)
@@ -217,7 +219,7 @@ module _ (t : Tree) (of : ℕ) (c : List ℕ) (into : ℕ) (name : List ℕ) (ol
           | true ↦ λ k.
               let j = key_same into name z.of z.component k in
               let there : find t.entries into name ≡ Some z = (λ i. find t.entries (j.0 i) (j.1 i)) ∙ p.found in
-              absurd (true_is_false (sym (λ i. eq-eqb z.node d p.node i && p.directory i)
+              absurd (true≢false (sym (λ i. eq-eqb z.node d p.node i && p.directory i)
               ∙ sym (ap (λ (o : Option Entry). is_gone o d) there) ∙ g))
           | false ↦ λ k. refl
         ] refl);
@@ -257,7 +259,7 @@ module _ (t : Tree) (of : ℕ) (c : List ℕ) (into : ℕ) (name : List ℕ) (ol
 -- ---- how many entries
 pub length_dropped : (es : List Entry) (of : ℕ) (c : List ℕ) (e : Entry) → Distinct es → find es of c ≡ Some e →
     length (without of c es) + 1 ≡ length es
-length_dropped [] of c e h is = absurd (none_is_some e is)
+length_dropped [] of c e h is = absurd (none-some e is)
 length_dropped (y ∷ es) of c e h is = elim (is_at of c y) as (λ (b : Bool). is_at of c y ≡ b → (if b then Some y else find es of c)
     ≡ Some e → length (if b then without of c es else y ∷ without of c es) + 1 ≡ suc (length es)) [
       | true ↦ λ q r. let k = at_once of c y.of y.component q in
@@ -275,7 +277,7 @@ pub none_empty : (es : List Entry) (d : ℕ) → ((q : List ℕ) → find es d q
 none_empty [] d h = refl
 none_empty (e ∷ es) d h = elim (e.of == d) as (λ (b : Bool). ((q : List ℕ) → (if b && bytes_eq e.component q then Some e else find es d q)
     ≡ None) → (if b then false else is_empty es d) ≡ true) [
-      | true ↦ λ g. absurd (none_is_some e (sym (g e.component) ∙ ap (λ (b : Bool). if b then Some e else find es d e.component)
-          (bytes_same e.component e.component refl)))
+      | true ↦ λ g. absurd (none-some e (sym (g e.component) ∙ ap (λ (b : Bool). if b then Some e else find es d e.component)
+          ((bytes_eq-Decides e.component e.component).1 refl)))
       | false ↦ λ g. none_empty es d g
     ] h

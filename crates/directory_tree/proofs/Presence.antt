@@ -1,6 +1,6 @@
 -- What a walk leads to is in the tree, and its name leads back to it.
 use Rattle.std.proofs.Common.{◌≡◌, ℕ, zero, suc, ◌==◌, ◌&&◌, Bool, true, false, List, [], ◌∷◌, ◌++◌, map, length, Some, None, Option, sym}
-use Rattle.std.proofs.Common.{refl, ap, ◌∙◌, subst, arith, eqb-true, eq-eqb, ne_eqb, append_assoc}
+use Rattle.std.proofs.Common.{refl, ap, ◌∙◌, subst, arith, eqb-true, eq-eqb, ne_eqb, append_assoc, true≢false}
 use Rattle.std.specs.Prelude.{if◌then◌else◌, Ok, Err}
 use Rattle.std.proofs.lemmas.List.{append-nil}
 use Rattle.names.specs.declared.errors.Errno.TheVariants.{ENOENT, ENOTDIR, ELOOP}
@@ -17,8 +17,9 @@ use Rattle.directory_tree.specs.Walk.{max_links}
 use Rattle.directory_tree.specs.Walk.Spot.{Root, Held}
 use Rattle.directory_tree.specs.Name.{directory_name, name_of}
 use Rattle.directory_tree.specs.Spots.{node_at}
-use Rattle.directory_tree.proofs.Found.{found_at}
-use Rattle.directory_tree.proofs.Basics.{some_inj, none_is_some, ok_inj, err_is_ok, true_is_false}
+use Rattle.directory_tree.specs.laws.Found.{found_at}
+use Rattle.std.proofs.lemmas.Option.{none-some, same_Some}
+use Rattle.names.specs.laws.Results.{err-ok, same_Ok}
 use Rattle.directory_tree.proofs.Depth.{enough}
 use Rattle.directory_tree.proofs.Texts.{ends_open}
 use Rattle.directory_tree.proofs.Walks.{steps, own_entry_found, steps_more, steps_closed, one_down, back}
@@ -29,7 +30,7 @@ own_key es d c e h = let k = found_at es d c e h in (λ i. find es (k.0 i) (k.1 
 
 has_place : (es : List Entry) (d : ℕ) (c : List ℕ) (e : Entry) → find es d c ≡ Some e → is_directory e.kind ≡ true →
     (z : Entry) × (own_entry es e.node ≡ Some z)
-has_place [] d c e h directory = absurd (none_is_some e h)
+has_place [] d c e h directory = absurd (none-some e h)
 has_place (y ∷ es) d c e h directory =
     elim ((y.node == e.node) && is_directory y.kind) as (λ (b : Bool). ((y.node == e.node) && is_directory y.kind) ≡ b →
     (z : Entry) × ((if b then Some y else own_entry es e.node) ≡ Some z)) [
@@ -37,8 +38,8 @@ has_place (y ∷ es) d c e h directory =
       | false ↦ λ q. elim (is_at d c y) as (λ (b : Bool). (if b then Some y else find es d c) ≡ Some e →
           (z : Entry) × (own_entry es e.node ≡ Some z)) [
             | true ↦ λ r. absurd
-                (true_is_false (sym ((λ i. (eq-eqb _ _ (ap (λ (x : Entry). x.node) (some_inj y e r)) i) && is_directory
-                (some_inj y e r i).kind) ∙ directory) ∙ q))
+                (true≢false (sym ((λ i. (eq-eqb _ _ (ap (λ (x : Entry). x.node) (same_Some y e r)) i) && is_directory
+                (same_Some y e r i).kind) ∙ directory) ∙ q))
             | false ↦ λ r. has_place es d c e r directory
           ] h
     ] refl
@@ -74,12 +75,12 @@ kind_stands : (t : Tree) (k : NodeKind) (ends : Bool) (last : Last) (e : Entry) 
 kind_stands t Directory ends last e go follow s here on link h = on h
 kind_stands t File ends last e go follow s here on link h = elim ends as (λ (b : Bool). (if b then Ok (Held e) else Err ENOTDIR) ≡ Ok s →
     Stands t s) [
-      | true ↦ λ q. subst (Stands t) (ok_inj _ s q) here
-      | false ↦ λ q. absurd (err_is_ok ENOTDIR s q)
+      | true ↦ λ q. subst (Stands t) (same_Ok _ s q) here
+      | false ↦ λ q. absurd (err-ok ENOTDIR s q)
     ] h
 kind_stands t (Link text) ends last e go follow s here on link h = elim (ends && stays last) as
     (λ (b : Bool). (if b then Ok (Held e) else follow text) ≡ Ok s → Stands t s) [
-      | true ↦ λ q. subst (Stands t) (ok_inj _ s q) here
+      | true ↦ λ q. subst (Stands t) (same_Ok _ s q) here
       | false ↦ λ q. link text q
     ] h
 
@@ -90,14 +91,14 @@ stands t e h = h
 module _ (t : Tree) (last : Last) (well : WellFormed t) where
   onward_stands : (follow : ℕ → List Step → Walked) → ((d : ℕ) (xs : List Step) (s : Spot) → follow d xs ≡ Ok s → Stands t s) →
       (d : ℕ) (xs : List Step) (s : Spot) → onward t last follow d xs ≡ Ok s → Stands t s
-  onward_stands follow later d [] s h = subst (Stands t) (ok_inj _ s h) (spot_stands t well d)
+  onward_stands follow later d [] s h = subst (Stands t) (same_Ok _ s h) (spot_stands t well d)
   onward_stands follow later d (Here ∷ xs) s h = onward_stands follow later d xs s h
   onward_stands follow later d (Up ∷ xs) s h = onward_stands follow later (above t d) xs s h
   onward_stands follow later d (Down c ∷ xs) s h =
       elim (find t.entries d c) as (λ (o : Option Entry). find t.entries d c ≡ o →
       at_entry (is_last xs) last (λ n. onward t last follow n xs) (λ text. follow (start_of text d) (steps_of text ++ xs)) o ≡ Ok s →
       Stands t s) [
-        | None ↦ λ is q. absurd (err_is_ok ENOENT s q)
+        | None ↦ λ is q. absurd (err-ok ENOENT s q)
         | Some e ↦ λ is q. kind_stands t e.kind (is_last xs) last e (onward t last follow e.node xs)
             (λ text. follow (start_of text d) (steps_of text ++ xs)) s
             (stands t e (own_key t.entries d c e is)) (λ r. onward_stands follow later e.node xs s r)
@@ -105,7 +106,7 @@ module _ (t : Tree) (last : Last) (well : WellFormed t) where
       ] refl h
 
   pub resolve_stands : (links d : ℕ) (xs : List Step) (s : Spot) → resolve t last links d xs ≡ Ok s → Stands t s
-  resolve_stands zero d xs s h = onward_stands (λ d xs. Err ELOOP) (λ d xs s q. absurd (err_is_ok ELOOP s q)) d xs s h
+  resolve_stands zero d xs s h = onward_stands (λ d xs. Err ELOOP) (λ d xs s q. absurd (err-ok ELOOP s q)) d xs s h
   resolve_stands (suc links) d xs s h = onward_stands (λ d xs. resolve t last links d xs)
       (λ d xs s q. resolve_stands links d xs s q) d xs s h
 
@@ -123,11 +124,11 @@ stay_ends (Link text) = refl
 pub no_link_ends : (last : Last) (k : NodeKind) → is_link k ≡ false → ends_there last k ≡ true
 no_link_ends last Directory h = refl
 no_link_ends last File h = refl
-no_link_ends last (Link text) h = absurd (true_is_false h)
+no_link_ends last (Link text) h = absurd (true≢false h)
 
 found_last : (k : NodeKind) (last : Last) (found go : Walked) (follow : List ℕ → Walked) → is_directory k ≡ false → ends_there last k
     ≡ true → at_kind true last found go follow k ≡ found
-found_last Directory last found go follow h ends = absurd (true_is_false h)
+found_last Directory last found go follow h ends = absurd (true≢false h)
 found_last File last found go follow h ends = refl
 found_last (Link text) last found go follow h ends = ap (λ (b : Bool). if b then found else follow text) ends
 
@@ -195,7 +196,7 @@ walk_stands t last text e well h = resolve_stands t last well max_links root (st
 pub one_name : (t : Tree) (d : ℕ) (c : List ℕ) (d' : ℕ) (c' : List ℕ) (e e' : Entry) → WellFormed t → find t.entries d c ≡ Some e →
     find t.entries d' c' ≡ Some e' → name_of t (Held e) ≡ name_of t (Held e') → e ≡ e'
 one_name t d c d' c' e e' well is is' same =
-    held_inj e e' (ok_inj (Held e) (Held e') (sym (stay_back t d c e well is) ∙ ap (walk t Stay) same ∙ stay_back t d' c' e' well is'))
+    held_inj e e' (same_Ok (Held e) (Held e') (sym (stay_back t d c e well is) ∙ ap (walk t Stay) same ∙ stay_back t d' c' e' well is'))
   where
     held_inj : (x y : Entry) → Held x ≡ Held y → x ≡ y
     held_inj x y h = ap (λ (s : Spot). elim s as (λ _. Entry) [ Root ↦ x | Held z ↦ z ]) h

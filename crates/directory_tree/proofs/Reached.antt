@@ -1,6 +1,6 @@
 -- A walk that reached a directory also reaches it with one more entry of a file in the tree, and goes on to an entry there.
 use Rattle.std.proofs.Common.{◌≡◌, ℕ, zero, suc, ◌≤◌, ◌==◌, ◌&&◌, Bool, true, false, List, [], ◌∷◌, ◌++◌, length, Some, None, Option, sym}
-use Rattle.std.proofs.Common.{refl, ap, ◌∙◌, arith, ne_eqb, append_assoc}
+use Rattle.std.proofs.Common.{refl, ap, ◌∙◌, arith, ne_eqb, append_assoc, true≢false}
 use Rattle.std.specs.Prelude.{if◌then◌else◌, Ok, Err}
 use Rattle.names.specs.declared.errors.Errno.TheVariants.{ENOENT, ENOTDIR, ELOOP}
 use Rattle.names.specs.Paths.{begins_with_slash}
@@ -15,8 +15,8 @@ use Rattle.directory_tree.specs.Walk.Spot.{Root, Held}
 use Rattle.directory_tree.specs.Spots.{node_at}
 use Rattle.directory_tree.specs.Name.{name_up, directory_name}
 use Rattle.directory_tree.specs.Apply.{directory_at, is_file, with_entry}
-use Rattle.directory_tree.proofs.Basics.{ok_inj, err_is_ok, true_is_false}
-use Rattle.directory_tree.proofs.Found.{find-append_old}
+use Rattle.names.specs.laws.Results.{err-ok, same_Ok}
+use Rattle.directory_tree.specs.laws.Found.{find-append_old}
 use Rattle.directory_tree.proofs.Depth.{deep, shallow}
 use Rattle.directory_tree.proofs.Depth.{up_deep}
 use Rattle.directory_tree.proofs.Presence.{placed_at}
@@ -115,10 +115,10 @@ start_placed t text d h = elim (begins_with_slash text) as (λ (b : Bool). IsPla
 
 -- the number of a spot that is a directory
 directory_node : (s : Spot) (n : ℕ) → directory_at s ≡ Ok n → node_at s ≡ n
-directory_node Root n h = ok_inj root n h
+directory_node Root n h = same_Ok root n h
 directory_node (Held e) n h = elim (is_directory e.kind) as (λ (b : Bool). (if b then Ok e.node else Err ENOTDIR) ≡ Ok n → e.node ≡ n) [
-  | true ↦ λ q. ok_inj e.node n q
-  | false ↦ λ q. absurd (err_is_ok ENOTDIR n q)
+  | true ↦ λ q. same_Ok e.node n q
+  | false ↦ λ q. absurd (err-ok ENOTDIR n q)
 ] h
 
 -- a step that is followed by another isn't the last
@@ -135,9 +135,9 @@ module _ (e : Entry) (n : ℕ) where
   on_kind Directory is ends go go' follow follow' s r at on link h = on refl h
   on_kind File is ends go go' follow follow' s r at on link h = elim ends as (λ (b : Bool). (if b then Ok (Held e) else Err ENOTDIR)
       ≡ Ok s → Err ENOTDIR ≡ r) [
-        | true ↦ λ q. absurd (err_is_ok ENOTDIR n (sym (ap (λ (b : Bool). if b then Ok e.node else Err ENOTDIR) (ap is_directory is))
-            ∙ ap directory_at (ok_inj (Held e) s q) ∙ at))
-        | false ↦ λ q. absurd (err_is_ok ENOTDIR s q)
+        | true ↦ λ q. absurd (err-ok ENOTDIR n (sym (ap (λ (b : Bool). if b then Ok e.node else Err ENOTDIR) (ap is_directory is))
+            ∙ ap directory_at (same_Ok (Held e) s q) ∙ at))
+        | false ↦ λ q. absurd (err-ok ENOTDIR s q)
       ] h
   on_kind (Link text) is ends go go' follow follow' s r at on link h =
       elim ends as (λ (b : Bool). (if b && false then Ok (Held e) else follow text) ≡ Ok s → follow' text ≡ r) [
@@ -150,16 +150,16 @@ module _ (t u : Tree) (well : WellFormed t) (grown : IsGrown t u) (n : ℕ) (c :
     (file : is_file z.kind ≡ true) where
   file_here : (k : NodeKind) (go : Walked) (follow : List ℕ → Walked) → is_file k ≡ true → at_kind true Stay (Ok (Held z)) go follow k
       ≡ Ok (Held z)
-  file_here Directory go follow h = absurd (true_is_false (sym h))
+  file_here Directory go follow h = absurd (true≢false (sym h))
   file_here File go follow h = refl
-  file_here (Link text) go follow h = absurd (true_is_false (sym h))
+  file_here (Link text) go follow h = absurd (true≢false (sym h))
 
   onward_on : (follow follow' : ℕ → List Step → Walked) → ((d : ℕ) (xs : List Step) (s : Spot) → IsPlaced t d → directory_at s ≡ Ok n →
       follow d xs ≡ Ok s → follow' d (xs ++ Down c ∷ []) ≡ Ok (Held z))
       → (d : ℕ) (xs : List Step) (s : Spot) → IsPlaced t d → directory_at s ≡ Ok n → onward t Follow follow d xs ≡ Ok s →
       onward u Stay follow' d (xs ++ Down c ∷ []) ≡ Ok (Held z)
   onward_on follow follow' on d [] s placed at h =
-      let same : n ≡ d = sym (directory_node s n at) ∙ ap node_at (sym (ok_inj (spot_of t d) s h)) ∙ placed in
+      let same : n ≡ d = sym (directory_node s n at) ∙ ap node_at (sym (same_Ok (spot_of t d) s h)) ∙ placed in
       ap (at_entry true Stay (λ m. onward u Stay follow' m []) (λ text. follow' (start_of text d) (steps_of text ++ [])))
       (ap (λ (m : ℕ). find u.entries m c) (sym same) ∙ there)
       ∙ file_here z.kind (onward u Stay follow' z.node []) (λ text. follow' (start_of text d) (steps_of text ++ [])) file
@@ -171,7 +171,7 @@ module _ (t u : Tree) (well : WellFormed t) (grown : IsGrown t u) (n : ℕ) (c :
       elim (find t.entries d q) as (λ (o : Option Entry). find t.entries d q ≡ o → at_entry (is_last xs) Follow
       (λ m. onward t Follow follow m xs) (λ text. follow (start_of text d) (steps_of text ++ xs)) o ≡ Ok s
       → onward u Stay follow' d (Down q ∷ xs ++ Down c ∷ []) ≡ Ok (Held z)) [
-        | None ↦ λ is r. absurd (err_is_ok ENOENT s r)
+        | None ↦ λ is r. absurd (err-ok ENOENT s r)
         | Some e ↦ λ is r.
             (λ i. at_entry (last_more xs (Down c) i) Stay (λ m. onward u Stay follow' m (xs ++ Down c ∷ []))
             (λ text. follow' (start_of text d) (steps_of text ++ (xs ++ Down c ∷ []))) (grown.finds d q e is i))
@@ -186,6 +186,6 @@ module _ (t u : Tree) (well : WellFormed t) (grown : IsGrown t u) (n : ℕ) (c :
   pub resolve_on : (links d : ℕ) (xs : List Step) (s : Spot) → IsPlaced t d → directory_at s ≡ Ok n → resolve t Follow links d xs ≡ Ok s →
       resolve u Stay links d (xs ++ Down c ∷ []) ≡ Ok (Held z)
   resolve_on zero d xs s placed at h = onward_on (λ d xs. Err ELOOP) (λ d xs. Err ELOOP)
-      (λ d xs s placed at q. absurd (err_is_ok ELOOP s q)) d xs s placed at h
+      (λ d xs s placed at q. absurd (err-ok ELOOP s q)) d xs s placed at h
   resolve_on (suc links) d xs s placed at h = onward_on (λ d xs. resolve t Follow links d xs) (λ d xs. resolve u Stay links d xs)
       (λ d xs s placed at q. resolve_on links d xs s placed at q) d xs s placed at h

@@ -1,6 +1,6 @@
 -- The names of entries in a tree in which an entry moved.
 use Rattle.std.proofs.Common.{◌≡◌, ℕ, ◌&&◌, Bool, true, false, List, [], ◌∷◌, ◌++◌, length, Some, None, Option, sym, refl, ap, ◌∙◌, subst}
-use Rattle.std.proofs.Common.{append_assoc}
+use Rattle.std.proofs.Common.{append_assoc, true≢false}
 use Rattle.std.specs.Prelude.{if◌then◌else◌, Ok}
 use mathlib.Core.Logic.{inl, inr}
 use Rattle.directory_tree.specs.Components.{IsComponent, slash}
@@ -11,8 +11,8 @@ use Rattle.directory_tree.specs.Place.{place_name}
 use Rattle.directory_tree.specs.Moves.{IsWithin, IsMove, StandsAt}
 use Rattle.directory_tree.specs.Apply.{entry, moved, rename, goes_below, place_one}
 use Rattle.directory_tree.proofs.Renames.{climbs}
-use Rattle.directory_tree.proofs.Basics.{true_is_false, both_true}
-use Rattle.directory_tree.proofs.Found.{found_at, is_at-same, Apart}
+use Rattle.std.proofs.lemmas.Bool.{and_parts}
+use Rattle.directory_tree.specs.laws.Found.{found_at, is_at-same, Apart}
 use Rattle.directory_tree.proofs.Depth.{deep}
 use Rattle.directory_tree.proofs.Renames.{rename_keeps}
 use Rattle.directory_tree.proofs.Placement.{is_gone, find_new}
@@ -76,7 +76,7 @@ module _ (t : Tree) (well : WellFormed t) (d : ℕ) (c : List ℕ) (old : Entry)
       is_below t.entries (length t.entries) old.node e.of ≡ true → MovesTo t u d c into name e e
   moves_below e found far directory below =
       let free : Apart into name e.of e.component =
-      λ a b. true_is_false (sym (λ i. directory i && below i) ∙ ap (goes_below t.entries old) a ∙ above) in
+      λ a b. true≢false (sym (λ i. directory i && below i) ∙ ap (goes_below t.entries old) a ∙ above) in
       let there = found_still t d c into name other e found far free in
       let (k, l) = well.rooted e.of e.component e found in
       let (j, l_u) = later.rooted e.of e.component e there in
@@ -103,7 +103,7 @@ module _ (t : Tree) (well : WellFormed t) (d : ℕ) (c : List ℕ) (old : Entry)
         MovesTo t u d c into name e (place_one d c into name e)) [
           | true ↦ λ q. moves_same e (at_old t d c old is e found q)
           | false ↦ λ q.
-              let far : Apart d c e.of e.component = λ a b. true_is_false (sym (is_at-same d c e a b) ∙ q) in
+              let far : Apart d c e.of e.component = λ a b. true≢false (sym (is_at-same d c e a b) ∙ q) in
               subst (MovesTo t u d c into name e) (sym (own_entry_other d c into name e far)) (moves_below e found far directory below)
         ] refl
   ]
@@ -115,7 +115,7 @@ module _ (t : Tree) (well : WellFormed t) (d : ℕ) (c : List ℕ) (old : Entry)
     found_still t d c into name other e found (λ a b. beyond (inl (at_old t d c old is e found (is_at-same d c e a b))))
         (λ a b. free (a, b)),
     name_else e found (elim (goes_below t.entries old e.of) as (λ (b : Bool). goes_below t.entries old e.of ≡ b → b ≡ false) [
-      | true ↦ λ q. absurd (beyond (inr (both_true (is_directory old.kind) (is_below t.entries (length t.entries) old.node e.of) q)))
+      | true ↦ λ q. absurd (beyond (inr (and_parts (is_directory old.kind) (is_below t.entries (length t.entries) old.node e.of) q)))
       | false ↦ λ q. refl
     ] refl),
   )

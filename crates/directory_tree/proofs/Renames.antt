@@ -1,13 +1,14 @@
 -- An accepted rename keeps a tree well-formed.
 use Rattle.std.proofs.Common.{◌≡◌, ℕ, zero, suc, ◌==◌, ◌≢◌, ◌&&◌, Bool, true, false, List, length, Some, None, Option, sym, refl, ap, ◌∙◌}
-use Rattle.std.proofs.Common.{subst, eq-eqb}
+use Rattle.std.proofs.Common.{subst, eq-eqb, true≢false}
 use Rattle.std.specs.Prelude.{if◌then◌else◌, Ok, Err}
 use Rattle.names.specs.declared.errors.Errno.TheVariants.{ENOENT, EINVAL}
 use Rattle.directory_tree.specs.Components.{IsComponent}
 use Rattle.directory_tree.specs.Tree.{Tree, Entry, WellFormed, find, leads, is_directory, is_empty, is_below}
 use Rattle.directory_tree.specs.Apply.{without, dropped, placed, moved, goes_below, onto_kind, rename, rename_from, rename_onto}
-use Rattle.directory_tree.proofs.Found.{Apart, find-without_same, find-without_other, without-none}
-use Rattle.directory_tree.proofs.Basics.{some_inj, ok_inj, err_is_ok, true_is_false}
+use Rattle.directory_tree.specs.laws.Found.{Apart, find-without_same, find-without_other, without-none}
+use Rattle.std.proofs.lemmas.Option.{same_Some}
+use Rattle.names.specs.laws.Results.{err-ok, same_Ok}
 use Rattle.directory_tree.proofs.Walks.{own_entry_found}
 use Rattle.directory_tree.proofs.Depth.{Deep, deep, shallow}
 use Rattle.directory_tree.proofs.Drops.{HasEntry, own_entry-without, kept_place, drop_keeps}
@@ -23,7 +24,7 @@ file_avoids t well d c old is file (suc m) x (e, at, apart, up) =
       e,
       at,
       apart,
-      (λ q. true_is_false (sym p.directory ∙ ap is_directory (well.one_kind e.of e.component d c e old p.found is (p.node ∙ q)) ∙ file)),
+      (λ q. true≢false (sym p.directory ∙ ap is_directory (well.one_kind e.of e.component d c e old p.found is (p.node ∙ q)) ∙ file)),
       file_avoids t well d c old is file m e.of up,
     )
 
@@ -63,7 +64,7 @@ module _ (t : Tree) (well : WellFormed t) (d : ℕ) (c : List ℕ) (into : ℕ) 
     onto_other =
         let (m, avoids) = climbs t well d c old is n into up above in
         let keys : Apart into name d c =
-        λ a b. apart (ap (λ (z : Entry). z.node) (some_inj new old (sym there ∙ sym (λ i. find t.entries (a i) (b i)) ∙ is))) in
+        λ a b. apart (ap (λ (z : Entry). z.node) (same_Some new old (sym there ∙ sym (λ i. find t.entries (a i) (b i)) ∙ is))) in
         move_keeps (dropped t into name) (drop_keeps t well into name new there loose) d c into name old
         (find-without_other t.entries into name d c keys ∙ is) (find-without_same t.entries into name) proper m
         (avoids_without m into (name, new, there) avoids)
@@ -72,26 +73,26 @@ pub rename_keeps : (t u : Tree) (d : ℕ) (c : List ℕ) (into : ℕ) (name : Li
     IsComponent name → rename t d c into name ≡ Ok u → WellFormed u
 rename_keeps t u d c into name n well up proper h =
     elim (find t.entries d c) as (λ (o : Option Entry). find t.entries d c ≡ o → rename_from t d c into name o ≡ Ok u → WellFormed u) [
-      | None ↦ λ is q. absurd (err_is_ok ENOENT u q)
+      | None ↦ λ is q. absurd (err-ok ENOENT u q)
       | Some old ↦ λ is q. elim (find t.entries into name) as (λ (o : Option Entry). find t.entries into name ≡ o →
           rename_onto t old into (Ok (moved t d c into name)) o ≡ Ok u → WellFormed u) [
             | None ↦ λ free r. elim (goes_below t.entries old into) as (λ (b : Bool). goes_below t.entries old into ≡ b →
                 (if b then Err EINVAL else Ok (moved t d c into name)) ≡ Ok u → WellFormed u) [
-                  | true ↦ λ below s. absurd (err_is_ok EINVAL u s)
-                  | false ↦ λ below s. subst WellFormed (ok_inj _ u s) (onto_free t well d c into name proper n up old is below free)
+                  | true ↦ λ below s. absurd (err-ok EINVAL u s)
+                  | false ↦ λ below s. subst WellFormed (same_Ok _ u s) (onto_free t well d c into name proper n up old is below free)
                 ] refl r
             | Some new ↦ λ there r. elim (new.node == old.node) as (λ (b : Bool). (new.node == old.node) ≡ b →
                 (if b then Ok t else (if goes_below t.entries old into then Err EINVAL else onto_kind t.entries old new
                 (Ok (moved t d c into name)))) ≡ Ok u → WellFormed u) [
-                  | true ↦ λ same s. subst WellFormed (ok_inj t u s) well
+                  | true ↦ λ same s. subst WellFormed (same_Ok t u s) well
                   | false ↦ λ same s. elim (goes_below t.entries old into) as (λ (b : Bool). goes_below t.entries old into ≡ b →
                       (if b then Err EINVAL else onto_kind t.entries old new (Ok (moved t d c into name))) ≡ Ok u → WellFormed u) [
-                        | true ↦ λ below p. absurd (err_is_ok EINVAL u p)
+                        | true ↦ λ below p. absurd (err-ok EINVAL u p)
                         | false ↦ λ below p. let k = gives_way (is_directory old.kind) (is_directory new.kind)
                             (is_empty t.entries new.node)
                             (moved t d c into name) u p in
                             subst WellFormed k.0 (onto_other t well d c into name proper n up old is below new there
-                            (λ e. true_is_false (sym (eq-eqb new.node old.node e) ∙ same)) k.1)
+                            (λ e. true≢false (sym (eq-eqb new.node old.node e) ∙ same)) k.1)
                       ] refl s
                 ] refl r
           ] refl q

@@ -1,6 +1,6 @@
 -- The parts of a text that is put together from components.
 use Rattle.std.proofs.Common.{◌≡◌, ℕ, ◌<◌, ◌-◌, ◌==◌, Bool, true, false, List, [], ◌∷◌, ◌++◌, map, length, sym, refl, ap, ◌∙◌, cond, arith}
-use Rattle.std.proofs.Common.{ne_eqb}
+use Rattle.std.proofs.Common.{ne_eqb, true≢false}
 use Rattle.std.specs.Prelude.{if◌then◌else◌, filter, not}
 use Rattle.std.specs.List.{list_any, slice_split, onto_first}
 use Rattle.std.proofs.lemmas.List.{append-nil, length-append, get_or_at}
@@ -8,7 +8,7 @@ use Rattle.std.proofs.lemmas.List.Elements.{filter-append}
 use Rattle.names.specs.Paths.{is_slash, is_empty, filled_parts, ends_with_slash}
 use Rattle.names.proofs.PathLaws.{split_joined, ends_joined, none_passes}
 use Rattle.directory_tree.specs.Components.{slash, dot, is_filled, step_of, steps_of}
-use Rattle.directory_tree.proofs.Basics.{both_false, true_is_false}
+use Rattle.std.proofs.lemmas.Bool.{or_parts}
 
 abbrev some : List ℕ → Bool
 some part = not (is_empty part)
@@ -19,12 +19,12 @@ filled_is [] = refl
 filled_is (b ∷ part) = ap not (ne_eqb (length (b ∷ part)) 0 (λ e. omega arith))
 
 pub filled_long : (part : List ℕ) → is_filled part ≡ true → 0 < length part
-filled_long [] h = absurd (true_is_false (sym h))
+filled_long [] h = absurd (true≢false (sym h))
 filled_long (b ∷ part) h = omega arith
 
 parts_one : (c : List ℕ) → list_any (λ b. b == slash) c ≡ false → slice_split is_slash c ≡ c ∷ []
 parts_one [] h = refl
-parts_one (b ∷ c) h = let k = both_false _ _ h in
+parts_one (b ∷ c) h = let k = or_parts _ _ h in
     ap (λ (z : Bool). cond z ([] ∷ slice_split is_slash c) (onto_first b (slice_split is_slash c))) k.0
     ∙ ap (onto_first b) (parts_one c k.1)
 

@@ -13,8 +13,9 @@ use Rattle.directory_tree.specs.Tree.{Tree, Entry, WellFormed, root, find, own_e
 use Rattle.directory_tree.specs.Walk.{Walked, at_entry, at_kind, start_of, is_last, onward}
 use Rattle.directory_tree.specs.Walk.Spot.{Held}
 use Rattle.directory_tree.specs.Name.{name_up}
-use Rattle.directory_tree.proofs.Found.{at_once, is_at-same}
-use Rattle.directory_tree.proofs.Basics.{some_inj, none_is_some, both_true}
+use Rattle.directory_tree.specs.laws.Found.{at_once, is_at-same}
+use Rattle.std.proofs.lemmas.Option.{none-some, same_Some}
+use Rattle.std.proofs.lemmas.Bool.{and_parts}
 use Rattle.directory_tree.proofs.Texts.{names_more, names_closed, ends_closed}
 
 pub record IsPlace (es : List Entry) (d : ℕ) (e : Entry) : Type 0 where
@@ -27,7 +28,7 @@ pub later : (y e : Entry) (es : List Entry) → find es y.of y.component ≡ Non
 later y e es none is = elim (is_at e.of e.component y) as (λ (b : Bool). is_at e.of e.component y ≡ b →
     (if b then Some y else find es e.of e.component) ≡ Some e) [
       | true ↦ λ q. let k = at_once e.of e.component y.of y.component q in
-          absurd (none_is_some e (sym none ∙ (λ i. find es (k.0 i) (k.1 i)) ∙ is))
+          absurd (none-some e (sym none ∙ (λ i. find es (k.0 i) (k.1 i)) ∙ is))
       | false ↦ λ q. is
     ] refl
 
@@ -35,11 +36,11 @@ pub first : (e : Entry) (es : List Entry) → find (e ∷ es) e.of e.component �
 first e es = ap (λ (b : Bool). if b then Some e else find es e.of e.component) (is_at-same e.of e.component e refl refl)
 
 pub own_entry_found : (es : List Entry) (d : ℕ) (e : Entry) → Distinct es → own_entry es d ≡ Some e → IsPlace es d e
-own_entry_found [] d e distinct h = absurd (none_is_some e h)
+own_entry_found [] d e distinct h = absurd (none-some e h)
 own_entry_found (y ∷ es) d e distinct h =
     elim ((y.node == d) && is_directory y.kind) as (λ (b : Bool). ((y.node == d) && is_directory y.kind) ≡ b →
     (if b then Some y else own_entry es d) ≡ Some e → IsPlace (y ∷ es) d e) [
-      | true ↦ λ q r. let k = both_true _ _ q in subst (IsPlace (y ∷ es) d) (some_inj y e r) record {
+      | true ↦ λ q r. let k = and_parts _ _ q in subst (IsPlace (y ∷ es) d) (same_Some y e r) record {
         found = first y es;
         node =
             eqb-true y.node d k.0;

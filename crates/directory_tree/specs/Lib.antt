@@ -9,3 +9,4 @@ pub mod Moves
 pub mod Followed
 pub mod Plain
 pub mod Script
+pub mod laws

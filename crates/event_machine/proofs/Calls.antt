@@ -8,7 +8,7 @@ use Rattle.std.specs.Prelude.{if◌then◌else◌}
 use Rattle.std.specs.List.{All}
 use Rattle.mediation.specs.Deeds.{Deed, policy_after}
 use Rattle.mediation.specs.Judge.{Judge}
-use Rattle.justification.proofs.Later.{published_stays}
+use Rattle.justification.specs.laws.Later.{published_stays}
 use Rattle.justification.specs.declared.answer.Answer.{Answer}
 use Rattle.justification.specs.Versions.{IsPublishedAt}
 use Rattle.row_rule.specs.declared.view.KeeperView.{KeeperView}
@@ -16,7 +16,7 @@ use Rattle.row_rule.specs.declared.view.WalkerView.{WalkerView}
 use Rattle.row_rule.specs.declared.view.View.TheVariants.{Keeps, Walks}
 use Rattle.row_rule.specs.Row.{count_of, FitsWalker, Agrees}
 use Rattle.row_rule.specs.Steps.{newcomer, beginning, reading, ending, opening, setting, closing}
-use Rattle.row_rule.proofs.Rule.{even_encodes}
+use Rattle.row_rule.specs.laws.Rule.{even_encodes}
 use Rattle.tree_row.specs.Rows.{row_length}
 use Rattle.row_plan.specs.Changes.{EncodesChanges}
 use Rattle.event_machine.specs.Machine.{Call, Event, Policed, Stage, Session, Machine, with_session}
@@ -28,7 +28,7 @@ use Rattle.event_machine.specs.Takes.{Moves, Takes, after_policy}
 use Rattle.event_machine.specs.Runs.{Legal}
 use Rattle.event_machine.specs.Rule.{view_of, KeepsRule}
 use Rattle.event_machine.specs.Right.{BeginsCall, Span, Happened, IsPolicyVersion, IsCount}
-use Rattle.event_machine.proofs.Ruled.{fits_at}
+use Rattle.event_machine.specs.laws.Ruled.{fits_at}
 
 -- what a call that found its profile published has read
 pub record Polled (capacity : ℕ) (events : List Event) (deeds : List Deed) (s : ℕ) (p : Policed) : Type 0 where

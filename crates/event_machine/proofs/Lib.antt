@@ -1,4 +1,3 @@
-pub mod Ruled
 pub mod Runs
 pub mod Calls
 pub mod Rightly

@@ -16,12 +16,12 @@ use Rattle.tree_row.specs.Slots.{slot_at, text_at, packed}
 use Rattle.row_index.specs.Places.{around, index_length}
 use Rattle.row_index.specs.Hashes.{home}
 use Rattle.row_index.proofs.Rounds.{around_within}
-use Rattle.row_index.proofs.Homes.{home_within}
-use Rattle.row_index.proofs.Sizes.{index_some}
+use Rattle.row_index.specs.laws.Homes.{home_within}
+use Rattle.row_index.specs.laws.Sizes.{index_some}
 use Rattle.tree_row.specs.Rows.{row_length, index_base, Encodes}
 use Rattle.tree_row.specs.Worlds.{spot_at}
 use Rattle.tree_row.specs.OpeningRow.{opening_row}
-use Rattle.tree_row.proofs.OpeningRow.{length-opening, opens}
+use Rattle.tree_row.specs.laws.OpeningRow.{length-opening, opens}
 use Rattle.tree_row.specs.declared.look.RowEntry.{RowEntry}
 use Rattle.row_rule.specs.declared.cell.Cell.{Cell}
 use Rattle.row_rule.specs.Row.{write}

@@ -6,14 +6,14 @@ use Rattle.std.specs.Coded.{codes}
 use Rattle.directory_tree.specs.declared.change.Change.{Change}
 use Rattle.directory_tree.specs.Apply.{Changed, tree_after}
 use Rattle.directory_tree.specs.Tree.{Tree, Entry, Has}
-use Rattle.directory_tree.proofs.Basics.{ok_inj}
+use Rattle.names.specs.laws.Results.{same_Ok}
 use Rattle.tree_row.specs.Slots.{Slot, entry_at, slot_at, IsUsed, IsRootSlot, IsDirectorySlot, IsInRange}
 use Rattle.row_index.specs.Places.{around, index_length}
 use Rattle.row_index.specs.Index.{IsFound}
 use Rattle.row_index.specs.Edits.{index_at}
 use Rattle.row_index.proofs.Rounds.{around_within, around_apart}
-use Rattle.row_index.proofs.Homes.{home_within}
-use Rattle.row_index.proofs.Sizes.{index_some}
+use Rattle.row_index.specs.laws.Homes.{home_within}
+use Rattle.row_index.specs.laws.Sizes.{index_some}
 use Rattle.tree_row.specs.Rows.{EncodesSlots, Encodes, IsIndexed, index_base, homes_in, row_length}
 use Rattle.row_plan.specs.Changes.{EncodesChanges}
 
@@ -150,7 +150,7 @@ encodes_prop capacity row t x y = λ i. record {
 }
 
 pub changes_prop : (capacity : ℕ) (cells : List ℕ) (changes : List Change) → IsProp (EncodesChanges capacity cells changes)
-changes_prop capacity cells changes (t, made, encodes) (u, made', encodes') = joined t u (ok_inj t u (sym made ∙ made')) made
+changes_prop capacity cells changes (t, made, encodes) (u, made', encodes') = joined t u (same_Ok t u (sym made ∙ made')) made
     encodes made' encodes' where
       at_one : (t : Tree) (p p' : tree_after capacity changes ≡ Ok t) (e e' : Encodes capacity cells t) →
           (let x : EncodesChanges capacity cells changes = (t, p, e) in x)

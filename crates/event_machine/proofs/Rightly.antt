@@ -9,14 +9,14 @@ use Rattle.directory_tree.specs.Tree.{Tree}
 use Rattle.directory_tree.specs.Apply.{tree_after}
 use Rattle.directory_tree.proofs.Changes.{tree_after_well}
 use Rattle.mediation.specs.Opens.{Reached, reached}
-use Rattle.justification.proofs.Later.{tree_stays}
+use Rattle.justification.specs.laws.Later.{tree_stays}
 use Rattle.justification.specs.declared.answer.Answer.{Answer}
 use Rattle.justification.specs.declared.answer.Answer.TheVariants.{Judged, Failed, NoProfile, Busy, NoEntry}
 use Rattle.justification.specs.Justified.{Justified}
 use Rattle.justification.specs.Versions.{IsTreeAt, IsPublishedAt}
 use Rattle.row_rule.specs.declared.view.WalkerView.{WalkerView}
 use Rattle.row_rule.specs.Row.{FitsWalker}
-use Rattle.row_rule.proofs.Rule.{at_rest_where_even, half_count}
+use Rattle.row_rule.specs.laws.Rule.{at_rest_where_even, half_count}
 use Rattle.event_machine.specs.Machine.{Call, Event, Policed, Stage, Machine, first}
 use Rattle.event_machine.specs.Machine.Event.{begin, read_policy, read_count, read_cell, check_count, answer, open_change, set_cell}
 use Rattle.event_machine.specs.Machine.Event.{close_change, publish}
@@ -26,8 +26,8 @@ use Rattle.event_machine.specs.Takes.{Takes}
 use Rattle.event_machine.specs.Runs.{Legal}
 use Rattle.event_machine.specs.Rule.{view_of, KeepsRule}
 use Rattle.event_machine.specs.Right.{Span, Happened, IsTreeVersion, IsPolicyVersion, IsCount, IsRight}
-use Rattle.directory_tree.proofs.Rooms.{roomy_after}
-use Rattle.event_machine.proofs.Ruled.{first_kept, fits_at}
+use Rattle.directory_tree.specs.laws.Rooms.{roomy_after}
+use Rattle.event_machine.specs.laws.Ruled.{first_kept, fits_at}
 use Rattle.event_machine.proofs.Runs.{by_steps}
 use Rattle.event_machine.proofs.Calls.{IsCall, AreCalls, Rechecked, Unpolled, takes_calls}
 

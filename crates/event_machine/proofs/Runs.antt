@@ -5,7 +5,7 @@ use Rattle.event_machine.specs.Machine.{Event, Machine, first}
 use Rattle.event_machine.specs.Takes.{Takes}
 use Rattle.event_machine.specs.Runs.{told_by, Runs, Legal}
 use Rattle.event_machine.specs.Rule.{KeepsRule}
-use Rattle.event_machine.proofs.Ruled.{first_kept, takes_keep}
+use Rattle.event_machine.specs.laws.Ruled.{first_kept, takes_keep}
 
 pub run_snoc : (from : Machine) (events : List Event) (answers : List (ℕ × Answer)) (m : Machine) (event : Event) (told : Option Answer)
     (new : Machine)

@@ -8,3 +8,4 @@ pub mod Deeds
 pub mod Examples
 pub mod Lawful
 pub mod Coded
+pub mod laws

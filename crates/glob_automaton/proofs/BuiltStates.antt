@@ -10,8 +10,8 @@ use Rattle.glob_automaton.specs.inner.ChartStates.{IsStartOf, IsStepOf, begins, 
 use Rattle.automaton_rows.specs.Automata.{IsWhole}
 use Rattle.automaton_rows.specs.declared.range.TargetRange.{TargetRange}
 use Rattle.automaton_rows.specs.Rows.{AreRows, IsRowFrom, rows_of, target_in}
-use Rattle.automaton_rows.proofs.RowLaws.{row_stays, row_some, target_stays}
-use Rattle.automaton_rows.proofs.RowLists.{row_at, rows_long, target_at, targets_long}
+use Rattle.automaton_rows.specs.laws.RowLaws.{row_stays, row_some, target_stays}
+use Rattle.automaton_rows.specs.laws.RowLists.{row_at, rows_long, target_at, targets_long}
 use Rattle.glob_automaton.specs.inner.States.{tables, AreStates, IsNumbered, AreFewSets, Keeps, IsTargetOf, IsRowOfSet}
 use Rattle.glob_automaton.proofs.EmptySets.{all_empty}
 use Rattle.glob_automaton.proofs.RuleNumbers.{neither_less}

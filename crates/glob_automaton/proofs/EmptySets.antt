@@ -8,9 +8,9 @@ use Rattle.names.specs.declared.record.Record.{Record}
 use Rattle.glob_automaton.specs.inner.ChartStates.{IsStartOf, IsStepOf, IsReached, begins, goes_on, EndsIn, IsRecordOf}
 use Rattle.names.specs.Hits.{no_hits}
 use Rattle.names.specs.Least.{hits_of, no_hit, IsLeastOrNone}
-use Rattle.names.proofs.Positions.{place_below, stands_there}
-use Rattle.names.proofs.RecordLaws.{hits_made}
-use Rattle.glob_automaton.proofs.AscendingLists.{no_members, contains_none}
+use Rattle.names.specs.laws.Positions.{place_below, stands_there}
+use Rattle.names.specs.laws.Records.{hits_made}
+use Rattle.glob_automaton.specs.laws.AscendingLists.{no_members, contains_none}
 use Rattle.glob_automaton.proofs.OneRecord.{AreTheirHits}
 use Rattle.glob_automaton.proofs.SetSteps.{step_empty}
 

@@ -9,8 +9,7 @@ use Rattle.std.specs.contracts.prelude.BoolPartialEq.TheImpl as bool_impl
 use Rattle.std.proofs.lemmas.Slice.Eq.{slice_eq-Decides}
 use Rattle.names.specs.declared.permissions.Perms.{Perms}
 use Rattle.names.specs.Permissions.{all_permissions, has}
-use Rattle.names.proofs.PermsLaws.{each_passes}
-use Rattle.names.proofs.PermsTests.{same_perms}
+use Rattle.names.specs.laws.PermissionSets.{each_passes, same_perms}
 use Rattle.names.specs.contracts.permissions.PermsPartialEq.TheImpl as perms_impl
 use Rattle.names.specs.declared.kind.RuleKind.{RuleKind}
 use Rattle.names.specs.contracts.kind.RuleKindPartialEq.TheImpl as kind_impl

@@ -15,8 +15,8 @@ use Rattle.names.specs.declared.record.LeastHits.{LeastHits}
 use Rattle.names.specs.declared.record.Record.{Record}
 use Rattle.names.specs.Hits.{first_number, hits_with, hits_after, record_with, no_hits}
 use Rattle.names.specs.Least.{hits_of, no_hit, IsLeastOrNone}
-use Rattle.names.proofs.Positions.{place_below, stands_there}
-use Rattle.names.proofs.RecordLaws.{hits_made}
+use Rattle.names.specs.laws.Positions.{place_below, stands_there}
+use Rattle.names.specs.laws.Records.{hits_made}
 use Rattle.glob_automaton.specs.Least.{IsLeastRecord}
 use Rattle.glob_automaton.proofs.LeastSteps.{least-same}
 

@@ -11,7 +11,6 @@ pub mod DrawingLaws
 pub mod DrawingItems
 pub mod ChartRules
 pub mod PatternPlaces
-pub mod AscendingLists
 pub mod RuleNumbers
 pub mod LiveNumbers
 pub mod LiveByParts

@@ -5,7 +5,7 @@ use Rattle.std.proofs.Common.{arith}
 use Rattle.std.proofs.lemmas.Bool.{cases_lt}
 use Rattle.automaton_rows.specs.declared.range.TargetRange.{TargetRange}
 use Rattle.automaton_rows.specs.Rows.{IsRowAppended, target_in}
-use Rattle.automaton_rows.proofs.Fronts.{IsSoFar, one_range_more, last_range}
+use Rattle.automaton_rows.specs.laws.Fronts.{IsSoFar, one_range_more, last_range}
 use Rattle.glob_automaton.specs.declared.chart.Chart.{Chart}
 use Rattle.glob_automaton.specs.inner.Alike.{AreAlike, AreLike, AreNamed}
 use Rattle.glob_automaton.specs.inner.Drawings.{IsPartOfChart}

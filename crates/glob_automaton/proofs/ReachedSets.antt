@@ -10,7 +10,7 @@ use Rattle.glob_automaton.specs.declared.chart.ChartRule.{ChartRule}
 use Rattle.glob_automaton.specs.inner.ChartStates.{IsReached}
 use Rattle.glob_automaton.specs.inner.Drawings.{IsChartOf}
 use Rattle.glob_automaton.specs.Sets.{SameSet, NoneLive}
-use Rattle.glob_automaton.proofs.AscendingLists.{same_lists, no_members, contains_none}
+use Rattle.glob_automaton.specs.laws.AscendingLists.{same_lists, no_members, contains_none}
 use Rattle.glob_automaton.proofs.LiveByParts.{LeftFirst, IsLiveByParts, SameByParts, NoneByParts, same_by_parts, none_by_parts}
 use Rattle.glob_automaton.proofs.LiveNumbers.{LiveAtFirst, LiveAfterByte, IsNumber, live_numbers, reached_ascends}
 use Rattle.glob_automaton.proofs.PatternPlaces.{live_within}

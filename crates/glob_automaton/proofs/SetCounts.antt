@@ -9,7 +9,7 @@ use Rattle.glob_automaton.specs.declared.chart.Chart.{Chart}
 use Rattle.glob_automaton.specs.inner.ChartStates.{IsReached, AreSets}
 use Rattle.glob_automaton.specs.inner.Drawings.{IsChartOf}
 use Rattle.glob_automaton.specs.Sets.{NoneLive, IsPrefixOfName, AreDifferent}
-use Rattle.glob_automaton.proofs.AscendingLists.{some_member}
+use Rattle.glob_automaton.specs.laws.AscendingLists.{some_member}
 use Rattle.glob_automaton.proofs.LiveByParts.{LeftFirst}
 use Rattle.glob_automaton.proofs.LiveNumbers.{LiveAtFirst, LiveAfterByte}
 use Rattle.glob_automaton.proofs.NamePrefixes.{EachWithSlash, prefix_of_name}

@@ -9,7 +9,7 @@ use Rattle.glob_automaton.specs.declared.chart.Chart.{Chart}
 use Rattle.glob_automaton.specs.declared.chart.ChartRule.{ChartRule}
 use Rattle.glob_automaton.specs.inner.ChartStates.{ArePlaces, IsStartOf, IsStepOf, IsReached, begins, goes_on, AreSets}
 use Rattle.glob_automaton.specs.inner.Drawings.{HasRule, HasRules, IsPartOfChart}
-use Rattle.glob_automaton.proofs.AscendingLists.{contains_none}
+use Rattle.glob_automaton.specs.laws.AscendingLists.{contains_none}
 use Rattle.glob_automaton.proofs.PatternPlaces.{starts_within, goes_within, takes_within}
 use Rattle.glob_automaton.proofs.RuleNumbers.{rule_stands, rule_of}
 use Rattle.glob_automaton.proofs.SetSteps.{set_from}

@@ -9,7 +9,7 @@ use Rattle.automaton_rows.specs.declared.fault.CompileFault.{CompileFault}
 use Rattle.automaton_rows.specs.declared.fault.CompileFault.TheVariants.{TooManyStates, NoMemory}
 use Rattle.glob_automaton.specs.inner.ChartStates.{IsStepOf, IsReached, goes_on, AreSets, IsBuildFault}
 use Rattle.glob_automaton.specs.inner.States.{IsNumbered, IsNumberFault, AreFewSets, Keeps, IsTargetOf}
-use Rattle.glob_automaton.proofs.AscendingLists.{no_members, contains_none}
+use Rattle.glob_automaton.specs.laws.AscendingLists.{no_members, contains_none}
 
 -- some bytes reach the set, or it is empty
 abbrev pub IsEmptyOrReached : Chart → List ℕ → Type 0

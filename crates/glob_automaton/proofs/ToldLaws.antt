@@ -8,7 +8,7 @@ use Rattle.names.specs.declared.kind.RuleKind.TheVariants.{Allow, Deny}
 use Rattle.names.specs.declared.verdict.Verdict.{Verdict}
 use Rattle.names.specs.declared.verdict.Verdict.TheVariants.{Denied, NoRule, Allowed}
 use Rattle.names.specs.declared.record.Record.{Record}
-use Rattle.names.proofs.LeastNumbers.{least_there, least_none, least_some, none_least}
+use Rattle.names.specs.laws.LeastNumbers.{least_there, least_none, least_some, none_least}
 use Rattle.names.specs.Least.{hits_of}
 use Rattle.glob_automaton.specs.Least.{IsLeastRecord}
 use Rattle.names.specs.Records.{IsTold, ToldDenied, ToldMissing, NothingToldDenied}

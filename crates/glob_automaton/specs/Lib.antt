@@ -3,3 +3,4 @@ pub mod Sets
 pub mod Automata
 pub mod Parts
 pub mod inner
+pub mod laws

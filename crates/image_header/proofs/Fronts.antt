@@ -14,7 +14,7 @@ use Rattle.tables.specs.declared.fault.ImageFault.{ImageFault}
 use Rattle.tables.specs.declared.fault.ImageFault.TheVariants as fault
 use Rattle.tables.specs.declared.header.Version.{Version}
 use Rattle.tables.specs.declared.header.Version.TheVariants.{First, Second}
-use Rattle.tables.proofs.Decisions.{decided_equal, decided_limits, decided_list}
+use Rattle.tables.specs.laws.Decisions.{decided_equal, decided_limits, decided_list}
 
 -- a number in the first bytes
 number_same : (n i : ℕ) (xs ys : List ℕ) → i + n ≤ length xs → little_number n (drop i (xs ++ ys)) ≡ little_number n (drop i xs)

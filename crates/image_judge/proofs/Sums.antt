@@ -10,9 +10,8 @@ use Rattle.names.specs.declared.permissions.Permission.{Permission}
 use Rattle.names.specs.declared.permissions.Perms.{Perms}
 use Rattle.names.specs.Permissions.{all_permissions, has, index, permission_count, set_of}
 use Rattle.names.specs.Grounds.{HasNone}
-use Rattle.names.proofs.PermsLaws.{has-set_of}
-use Rattle.names.proofs.PermsTests.{same_perms}
-use Rattle.names.proofs.Positions.{place_below, place_is, stands_there}
+use Rattle.names.specs.laws.PermissionSets.{has-set_of, same_perms}
+use Rattle.names.specs.laws.Positions.{place_below, place_is, stands_there}
 use Rattle.image_judge.specs.Sets.{number_in, number_of, set_of_number}
 
 -- a number in its limits stands for the set of the permissions whose numbers are in it

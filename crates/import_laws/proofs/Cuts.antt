@@ -27,7 +27,7 @@ use Rattle.import_spans.specs.PartSpans.{head_kind, rule_kind}
 use Rattle.apparmor_variables.specs.Variables.{Variable}
 use Rattle.apparmor_rules.specs.declared.subject.Subject.{Subject}
 use Rattle.apparmor_rules.specs.Restatement.{has_some, with_path}
-use Rattle.apparmor_rules.proofs.RestatedPerms.{already_fitting}
+use Rattle.apparmor_rules.specs.laws.RestatedPerms.{already_fitting}
 use Rattle.apparmor_rules.specs.SubjectRules.{SubjectRule}
 use Rattle.import_profile.specs.AddedRules.{added_rules}
 use Rattle.import_profile.specs.FileRules.{PlacedRule, subject_rule, item_reading, rules_at, rules_in}

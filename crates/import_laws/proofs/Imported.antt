@@ -24,7 +24,7 @@ use Rattle.import_profile.proofs.ImportLaws.{imported_readable, imported_settled
 use Rattle.import_scope.specs.FirstFaults.{FirstFault, variables_within}
 use Rattle.import_scope.specs.Scopes as scopes
 use Rattle.import_scope.specs.Scopes.{Head, ScopeState, behind_all, can_be_said}
-use Rattle.import_scope.proofs.Extensions.{AreNamed}
+use Rattle.import_scope.specs.laws.Extensions.{AreNamed}
 use Rattle.apparmor_variables.specs.Variables.{Variable}
 use Rattle.apparmor_rules.specs.declared.subject.Subject.{Subject}
 use Rattle.apparmor_rules.specs.Restatement.{can_be_said as can_be_restated, has_some, is_restated, restated_perms}
@@ -32,7 +32,7 @@ use Rattle.apparmor_rules.specs.Restatement.{restated_paths, shape_of}
 use Rattle.apparmor_rules.specs.Restatement.{with_path}
 use Rattle.apparmor_rules.specs.SubjectRules.{SubjectRule, read, unread}
 use Rattle.apparmor_rules.specs.Subjects.{applies_to}
-use Rattle.apparmor_rules.proofs.RestatedPerms.{fitting, some_fitting}
+use Rattle.apparmor_rules.specs.laws.RestatedPerms.{fitting, some_fitting}
 use Rattle.import_profile.specs.declared.options.ImportOptions.{ImportOptions}
 use Rattle.import_profile.specs.AddedRules.{queries, change_of_profile, change_of_hat, added_rules}
 use Rattle.import_profile.specs.Faults.{which, too_many_rules, not_exact}

@@ -6,7 +6,7 @@ use Rattle.apparmor_text.specs.Parts.{ItemValue}
 use Rattle.import_scope.specs.FirstFaults.{Counted, nothing_counted, FirstFaultFrom, FirstFault, none_left, at_head, at_path, later}
 use Rattle.import_scope.specs.Scopes.{ScopeState, Head, Fault, behind, behind_all, can_be_said}
 use Rattle.import_scope.specs.inner.Outlines.{head_stop}
-use Rattle.import_scope.proofs.Extensions.{AreNamed, named_last, last_is_behind}
+use Rattle.import_scope.specs.laws.Extensions.{AreNamed, named_last, last_is_behind}
 
 pub unless : (b : Bool) → not b ≡ true → b ≡ false
 unless true h = absurd cc

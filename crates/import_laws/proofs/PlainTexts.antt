@@ -8,8 +8,8 @@ use Rattle.apparmor_variables.specs.PathTexts.{IsSubstituted, text_of}
 use Rattle.apparmor_variables.specs.Pieces.{Text, Piece, byte, escaped, use_of, written, closed_name, used_name, escape, first_piece}
 use Rattle.apparmor_variables.specs.Pieces.{pieces_behind, pieces}
 use Rattle.apparmor_variables.specs.Variables.{Variable, Known, list_at, most_bytes}
-use Rattle.apparmor_variables.proofs.PieceLaws.{written_again}
-use Rattle.apparmor_variables.proofs.PieceSteps.{at_first, plain_first}
+use Rattle.apparmor_variables.specs.laws.PieceLaws.{written_again}
+use Rattle.apparmor_variables.specs.laws.PieceSteps.{at_first, plain_first}
 use Rattle.import_profile.specs.OneWay.{opens_from, opens_variable}
 
 -- no piece is a use of a variable

@@ -16,14 +16,14 @@ use Rattle.apparmor_rules.specs.Restatement.{has_some, is_restated, restated, re
 use Rattle.apparmor_rules.specs.Restatement.{can_be_said as can_be_restated, fitting_letters, with_path}
 use Rattle.apparmor_rules.specs.SubjectRules.{SubjectPath, SubjectRule, read, unread}
 use Rattle.apparmor_rules.specs.Subjects.{applies_to}
-use Rattle.apparmor_rules.proofs.RestatedPerms.{fitting, some_fitting}
+use Rattle.apparmor_rules.specs.laws.RestatedPerms.{fitting, some_fitting}
 use Rattle.import_spans.specs.CutStates.{CutState}
 use Rattle.import_spans.specs.Cuts.{cut_item, is_chosen_rule}
 use Rattle.import_profile.specs.ImportedPaths.{imported_paths}
 use Rattle.import_scope.specs.FirstFaults.{Counted, nothing_counted, FirstFaultFrom, FirstFault, none_left, at_head, at_path, later}
 use Rattle.import_scope.specs.Scopes.{Fault, Head, ScopeState, behind, behind_all, can_be_said}
 use Rattle.import_scope.specs.inner.Outlines.{head_stop}
-use Rattle.import_scope.proofs.Extensions.{AreNamed, last_is_behind, named_last}
+use Rattle.import_scope.specs.laws.Extensions.{AreNamed, last_is_behind, named_last}
 use Rattle.apparmor_variables.specs.Variables.{Variable}
 use Rattle.import_profile.specs.AddedRules.{added_rules}
 use Rattle.import_profile.specs.FileRules.{PlacedRule, item_reading, path_as, rule_text, rules_at, rules_in, subject_rule}

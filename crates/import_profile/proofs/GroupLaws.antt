@@ -11,12 +11,12 @@ use Rattle.rule_globs.specs.declared.items.ByteRange.{ByteRange}
 use Rattle.rule_globs.specs.declared.items.Item.{Item, Item-F, out-Item, out-roll-Item, fold-roll-Item}
 use Rattle.rule_globs.specs.declared.items.Item.TheVariants as v
 use Rattle.rule_globs.specs.declared.items.Item.TheVariants.{rolls-Byte, rolls-AnyByte, rolls-Class, rolls-Stars, rolls-Group}
-use Rattle.rule_globs.proofs.TokenItems.{EachWithin, item_induction, alternatives_row, tokens-Byte, tokens-AnyByte, tokens-Class}
-use Rattle.rule_globs.proofs.TokenItems.{tokens-Stars, tokens-Group, full-Group}
+use Rattle.rule_globs.specs.laws.TokenItems.{EachWithin, item_induction, alternatives_row, tokens-Byte, tokens-AnyByte, tokens-Class}
+use Rattle.rule_globs.specs.laws.TokenItems.{tokens-Stars, tokens-Group, full-Group}
 use Rattle.rule_profile.specs.Readable.{is_path}
 use Rattle.rule_making.specs.Choices.{node_chooses, chooses, all_choose}
 use Rattle.rule_making.specs.Leads.{group_leads, slash_leads, front_leads, leads, led}
-use Rattle.rule_making.proofs.ChoiceLaws.{chooses-Group}
+use Rattle.rule_making.specs.laws.ChoiceLaws.{chooses-Group}
 use Rattle.rule_making.proofs.SameNames.{parts_of}
 use Rattle.import_profile.specs.Groups.{choose_from, groups_choose, Parts, in_front, behind_comma, parts_from, leads_from, led_from}
 

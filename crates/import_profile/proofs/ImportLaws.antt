@@ -8,7 +8,7 @@ use Rattle.std.proofs.lemmas.Slice.Eq.{bytes_eq-Decides}
 use Rattle.rule_globs.specs.Glob.{Takes}
 use Rattle.rule_globs.specs.Meaning.{meaning_of, alt_all}
 use Rattle.rule_globs.specs.Tokens.{Token, byte, any_byte, bracket, stars, opening, between, closing, pattern_of}
-use Rattle.rule_globs.proofs.TokenLaws.{same_pattern}
+use Rattle.rule_globs.specs.laws.TokenLaws.{same_pattern}
 use Rattle.rule_reader.specs.PathText.{text_tokens}
 use Rattle.rule_profile.specs.Readable.{begins_with_slash, is_path}
 use Rattle.rule_writer.proofs.CanonItems.{path_parts}

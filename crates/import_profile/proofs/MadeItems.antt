@@ -11,11 +11,11 @@ use Rattle.rule_globs.specs.declared.items.Class.{Class}
 use Rattle.rule_globs.specs.declared.items.Stars.{Stars}
 use Rattle.rule_globs.specs.declared.items.Item.{Item}
 use Rattle.rule_globs.specs.declared.items.Item.TheVariants as v
-use Rattle.rule_globs.proofs.TokenItems.{alternatives_row, tokens-Byte, tokens-AnyByte, tokens-Class, tokens-Stars, tokens-Group}
-use Rattle.rule_globs.proofs.TokenItems.{full-Byte, full-AnyByte, full-Class, full-Stars, full-Group}
+use Rattle.rule_globs.specs.laws.TokenItems.{alternatives_row, tokens-Byte, tokens-AnyByte, tokens-Class, tokens-Stars, tokens-Group}
+use Rattle.rule_globs.specs.laws.TokenItems.{full-Byte, full-AnyByte, full-Class, full-Stars, full-Group}
 use Rattle.rule_profile.specs.PathTokens.{is_plain_slash}
 use Rattle.rule_profile.specs.Readable.{is_token, are_tokens}
-use Rattle.rule_making.proofs.Ends.{some_tokens}
+use Rattle.rule_making.specs.laws.Ends.{some_tokens}
 
 -- a vector of these
 abbrev vec_of : {X : Type 0} → (items : List X) → length items ≤ 1024 → Vec X Global

@@ -17,7 +17,7 @@ use Rattle.import_scope.specs.ItemWords.{bytes_before}
 use Rattle.import_scope.specs.Scopes.{ScopeState, Head, Fault, first_number, behind, head_fault}
 use Rattle.import_scope.specs.inner.Outlines.{AskedValue, asked_value, asks, last_state, head_stop, all_asked}
 use Rattle.import_scope.specs.inner.Problems.{name_at, question_at, FirstProblem, all_answered, here, further}
-use Rattle.import_scope.proofs.Extensions.{Extends, extends_both, extends_behind, extends_last, last_at}
+use Rattle.import_scope.specs.laws.Extensions.{Extends, extends_both, extends_behind, extends_last, last_at}
 
 -- ---- the questions, one by one
 

@@ -3,3 +3,4 @@ pub mod Scopes
 pub mod FirstFaults
 pub mod Told
 pub mod inner
+pub mod laws

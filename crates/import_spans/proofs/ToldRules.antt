@@ -10,7 +10,7 @@ use Rattle.std.specs.Prelude.{option_map}
 use Rattle.names.specs.declared.permissions.Permission.TheVariants.{Link}
 use Rattle.names.specs.declared.permissions.Perms.{Perms}
 use Rattle.names.specs.Permissions.{has, only, set_of}
-use Rattle.names.proofs.PermsLaws.{one_found}
+use Rattle.names.specs.laws.PermissionSets.{one_found}
 use Rattle.rule_globs.specs.Each.{Each}
 use Rattle.apparmor_text.specs.declared.part.PartKind.{PartKind}
 use Rattle.apparmor_text.specs.declared.part.PartKind.TheVariants as kinds
@@ -33,7 +33,7 @@ use Rattle.apparmor_rules.specs.declared.subject.Subject.{Subject}
 use Rattle.apparmor_rules.specs.Changes.{change, effect, for_everybody, gained, lost, left_out_change, qualifier_alone}
 use Rattle.apparmor_rules.specs.Restatement.{can_be_said, has_some, is_restated, loses_link, restated_perms}
 use Rattle.apparmor_rules.specs.Subjects.{applies_to}
-use Rattle.apparmor_rules.proofs.RestatedPerms.{held_before, some_held}
+use Rattle.apparmor_rules.specs.laws.RestatedPerms.{held_before, some_held}
 use Rattle.import_spans.specs.declared.context.RuleReading.{RuleReading}
 use Rattle.import_spans.specs.declared.span.Span.{Span}
 use Rattle.import_spans.specs.declared.span.SpanKind.{SpanKind}

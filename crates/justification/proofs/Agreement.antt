@@ -1,7 +1,8 @@
 -- Two findings on one version agree.
 use Rattle.std.proofs.Common.{◌≡◌, ℕ, List, sym, ap, ◌∙◌}
 use Rattle.std.specs.Prelude.{Result, Ok, Err}
-use Rattle.directory_tree.proofs.Basics.{ok_inj, err_is_ok, some_inj}
+use Rattle.names.specs.laws.Results.{err-ok, same_Ok}
+use Rattle.std.proofs.lemmas.Option.{same_Some}
 use Rattle.directory_tree.specs.declared.change.Change.{Change}
 use Rattle.directory_tree.specs.Tree.{Tree}
 use Rattle.names.specs.declared.errors.Errno.{Errno}
@@ -16,7 +17,7 @@ use Rattle.justification.specs.Versions.{IsTreeAt}
 
 -- there is one tree of a version
 pub one_tree : (changes : List Change) (version : ℕ) (t u : Tree) → IsTreeAt changes version t → IsTreeAt changes version u → t ≡ u
-one_tree changes version t u at there = ok_inj t u (sym at.1 ∙ there.1)
+one_tree changes version t u at there = same_Ok t u (sym at.1 ∙ there.1)
 
 -- and in it an open has one outcome
 pub one_reach : (changes : List Change) (version : ℕ) (path : List ℕ) (ask : Perms) (t u : Tree) (one other : Result Reached Errno)
@@ -29,15 +30,15 @@ module _ (profile path : List ℕ) (ask : Perms) (changes : List Change) (deeds 
       → Justified profile path ask changes deeds (Judged v n tree policy) → Justified profile path ask changes deeds (Failed errno tree) →
       ⊥
   not_failed v n tree policy errno (t, file, judge, at, is, published, says) (u, there, are) =
-      err_is_ok errno file (one_reach changes tree path ask u t (Err errno) (Ok file) there at are is)
+      err-ok errno file (one_reach changes tree path ask u t (Err errno) (Ok file) there at are is)
 
   pub one_verdict : (v w : Verdict) (n m tree policy : ℕ)
       → Justified profile path ask changes deeds (Judged v n tree policy) → Justified profile path ask changes deeds
       (Judged w m tree policy) → (v ≡ w) × (n ≡ m)
   one_verdict v w n m tree policy (t, file, judge, at, is, published, (node_is, verdict_is))
       (u, found, other, there, are, too, (other_node_is, other_verdict_is)) =
-      let same : file ≡ found = ok_inj file found (one_reach changes tree path ask t u (Ok file) (Ok found) at there is are) in
-      let alike : judge ≡ other = some_inj judge other (sym published.1 ∙ too.1) in (
+      let same : file ≡ found = same_Ok file found (one_reach changes tree path ask t u (Ok file) (Ok found) at there is are) in
+      let alike : judge ≡ other = same_Some judge other (sym published.1 ∙ too.1) in (
         sym verdict_is ∙ (λ i. verdict_by (alike i) (same i).name ask) ∙ other_verdict_is,
         sym node_is ∙ ap (λ (x : Reached). x.node) same ∙ other_node_is,
       )

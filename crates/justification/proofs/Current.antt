@@ -8,7 +8,7 @@ use Rattle.names.specs.declared.verdict.Verdict.{Verdict}
 use Rattle.directory_tree.specs.Plain.{tree_of}
 use Rattle.directory_tree.specs.Tree.{Tree}
 use Rattle.directory_tree.specs.Apply.{and_then}
-use Rattle.directory_tree.proofs.Basics.{ok_inj}
+use Rattle.names.specs.laws.Results.{same_Ok}
 use Rattle.mediation.specs.Deeds.{Deed, policy_after}
 use Rattle.mediation.specs.History.{History, open_answer}
 use Rattle.mediation.specs.Judge.{Judge}
@@ -38,7 +38,7 @@ module _ (h : History) (profile path : List ℕ) (ask : Perms) (verdict : Verdic
   current_judgment now (t, file, judge, at, is, published, (node_is, verdict_is)) (u, found, there, are, name_is) =
       let reaches : Ok file ≡ reached (tree_of h.tree) path ask =
       one_reach h.tree.history changes path ask t (tree_of h.tree) (Ok file) (reached (tree_of h.tree) path ask) at now is refl in
-      let same : file ≡ found = ok_inj file found (one_reach h.tree.history changes path ask t u (Ok file) (Ok found) at there is are) in
+      let same : file ≡ found = same_Ok file found (one_reach h.tree.history changes path ask t u (Ok file) (Ok found) at there is are) in
       let named : file.name ≡ name = ap (λ (x : Reached). x.name) same ∙ name_is in
       let all : policy_after h.deeds profile ≡ Some judge =
       ap (λ (deeds : List Deed). policy_after deeds profile) (sym (take-length h.deeds)) ∙ published.1 in

@@ -4,7 +4,7 @@ use Rattle.std.proofs.lemmas.List.{take-append-drop}
 use Rattle.std.proofs.Math.Seq.{drop-cons}
 use Rattle.std.specs.Prelude.{Ok, Err}
 use Rattle.names.specs.declared.errors.Errno.{Errno}
-use Rattle.directory_tree.proofs.Basics.{err_is_ok}
+use Rattle.names.specs.laws.Results.{err-ok}
 use Rattle.directory_tree.specs.declared.change.Change.{Change}
 use Rattle.directory_tree.specs.Tree.{Tree, root_alone}
 use Rattle.directory_tree.specs.Apply.{Changed, and_then, apply_counted, after_from, tree_after}
@@ -35,4 +35,4 @@ none_after p capacity changes i change errno room is made low here refused t who
     ∙ after_append p.capacity 0 root_alone p.history (change ∷ rest) (length p.history) (omega arith)
     ∙ ap (λ (r : Changed). and_then r (λ u. after_from p.capacity (length p.history) u (change ∷ rest))) made
     ∙ ap (λ (r : Changed). and_then r (λ u. after_from p.capacity (length p.history + 1) u rest)) refused in
-    err_is_ok errno t (sym ended ∙ whole)
+    err-ok errno t (sym ended ∙ whole)

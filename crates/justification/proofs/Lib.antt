@@ -3,5 +3,4 @@ pub mod Lookups
 pub mod Agreement
 pub mod Current
 pub mod Growth
-pub mod Later
 pub mod SameVerdicts

@@ -2,7 +2,7 @@
 use Rattle.std.proofs.Common.{◌≡◌, ℕ, List, [], ◌∷◌, ◌++◌, map, ap, ◌∙◌, None}
 use Rattle.std.proofs.lemmas.List.{map-append}
 use Rattle.matcher.specs.declared.profiles.PolicyChange.{PolicyChange}
-use Rattle.mediation.proofs.DeedLaws.{after_both}
+use Rattle.mediation.specs.laws.DeedLaws.{after_both}
 use Rattle.mediation.specs.Deeds.{Policy, after_deed, policy_after}
 use Rattle.mediation.specs.PolicyChanges.{deed_of}
 

@@ -6,7 +6,7 @@ use Rattle.std.proofs.lemmas.Bool.{and_parts}
 use Rattle.names.specs.declared.permissions.Permission.{Permission}
 use Rattle.names.specs.declared.permissions.Perms.{Perms}
 use Rattle.names.specs.Permissions.{has}
-use Rattle.names.proofs.PermsTests.{same_perms as sets_by_members}
+use Rattle.names.specs.laws.PermissionSets.{same_perms as sets_by_members}
 use Rattle.names.specs.contracts.permissions.PermsPartialEq.TheImpl as perms_impl
 use Rattle.names.specs.declared.verdict.Verdict.{Verdict}
 use Rattle.names.specs.declared.verdict.Verdict.TheVariants.{Allowed, Denied, NoRule}

@@ -2,3 +2,4 @@ pub mod Opens
 pub mod inner
 pub mod Versions
 pub mod Justified
+pub mod laws

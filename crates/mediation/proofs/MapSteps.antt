@@ -16,7 +16,7 @@ use Rattle.std.specs.declared.alloc.Global.{Global}
 use Rattle.std.specs.declared.sync.Arc.{Arc}
 use Rattle.matcher.specs.declared.profiles.AnyProfile.{AnyProfile}
 use Rattle.matcher.specs.declared.profiles.PolicyChange.{PolicyChange}
-use Rattle.mediation.proofs.DeedLaws.{after_both}
+use Rattle.mediation.specs.laws.DeedLaws.{after_both}
 use Rattle.mediation.specs.Deeds.{Policy, after_deed, after_deeds}
 use Rattle.mediation.specs.PolicyChanges.{deed_of, judge_shared}
 use Rattle.mediation.specs.Profiles.{judge_of}

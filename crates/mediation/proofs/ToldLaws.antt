@@ -7,7 +7,7 @@ use Rattle.std.proofs.lemmas.Bool.{and_parts, and_from, eqb-true, ltb-true, ltb-
 use Rattle.names.specs.Least.{hits_of}
 use Rattle.names.specs.Records.{IsTold, ToldDenied, ToldMissing, NothingToldDenied}
 use Rattle.names.specs.declared.record.Record.{Record}
-use Rattle.names.proofs.PermsLaws.{has-set_of, none_found, one_found}
+use Rattle.names.specs.laws.PermissionSets.{has-set_of, none_found, one_found}
 use Rattle.mediation.specs.Told.{lesser, least_deny, missing_in, told}
 use Rattle.names.specs.Permissions.{has, all_permissions}
 use Rattle.names.specs.declared.permissions.Permission.{Permission}

@@ -9,3 +9,4 @@ pub mod Answers
 pub mod Judgments
 pub mod inner
 pub mod PolicyChanges
+pub mod laws

@@ -9,7 +9,7 @@ use Rattle.names.specs.declared.record.Record.{Record}
 use Rattle.names.specs.contracts.record.LeastHitsPartialEq.TheImpl as hits_impl
 use Rattle.names.specs.contracts.record.RecordPartialEq.TheImpl as record_impl
 use Rattle.names.specs.Least.{no_hit}
-use Rattle.names.proofs.RecordLaws.{same_record}
+use Rattle.names.specs.laws.Records.{same_record}
 
 hits_decided : (h k : LeastHits) → Decides (hits_impl.eq-value.it h k) (h ≡ k)
 hits_decided h k = (λ e. search rules, λ e. search rules)

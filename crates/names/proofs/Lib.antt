@@ -1,13 +1,8 @@
 pub mod PathLemmas
 pub mod PathLaws
-pub mod PermsLaws
 pub mod PermsTests
-pub mod ByteKeys
 pub mod LeastSteps
 pub mod MissingSteps
-pub mod LeastNumbers
 pub mod ToldLaws
-pub mod RecordLaws
 pub mod FilledRecords
 pub mod EqualRecords
-pub mod Positions

@@ -5,11 +5,7 @@ use Rattle.std.proofs.lemmas.Bool.{cases_Bool, eqb-true, ltb-true, ltb-false}
 use Rattle.names.specs.declared.permissions.Permission.{Permission}
 use Rattle.names.specs.declared.permissions.Perms.{Perms}
 use Rattle.names.specs.Permissions.{all_permissions, has, index, letter, permission_count, set_of, with_permission}
-use Rattle.names.proofs.PermsLaws.{has-set_of, same_letter}
-
--- sets with the same members are the same
-pub same_perms : (s t : Perms) → ((p : Permission) → has s p ≡ has t p) → s ≡ t
-same_perms s t h = λ i. set_of (λ p. h p i)
+use Rattle.names.specs.laws.PermissionSets.{has-set_of, same_letter, same_perms}
 
 -- one more permission is in the set, and no other
 with_itself : (s : Perms) (q : Permission) → has (with_permission s q) q ≡ true

@@ -8,13 +8,12 @@ use Rattle.names.specs.Permissions.{has, set_of}
 use Rattle.names.specs.declared.verdict.Verdict.{Verdict}
 use Rattle.names.specs.declared.verdict.Verdict.TheVariants.{Denied, NoRule, Allowed}
 use Rattle.names.specs.declared.record.Record.{Record}
-use Rattle.names.proofs.LeastNumbers.{least_none}
+use Rattle.names.specs.laws.LeastNumbers.{least_none}
 use Rattle.names.specs.Least.{hits_of, IsLeastOrNone}
 use Rattle.names.specs.Grounds.{IsVerdictOn}
 use Rattle.names.specs.declared.judgment.Grounds.{Grounds}
 use Rattle.names.specs.Records.{IsTold, ToldDenied, ToldMissing, NothingToldDenied}
-use Rattle.names.proofs.PermsLaws.{has-set_of, some_member}
-use Rattle.names.proofs.PermsTests.{same_perms}
+use Rattle.names.specs.laws.PermissionSets.{has-set_of, some_member, same_perms}
 
 -- two tests for the same proposition are equal
 same_test : (a b : Bool) {A : Type 0} → (IsTrue a ↔ A) → (IsTrue b ↔ A) → a ≡ b

@@ -9,3 +9,4 @@ pub mod Hits
 pub mod Records
 pub mod VerdictText
 pub mod Grounds
+pub mod laws

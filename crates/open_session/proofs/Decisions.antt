@@ -18,7 +18,7 @@ use Rattle.path_lookup.specs.World.{World}
 use Rattle.path_lookup.specs.WalkFaults.{IsFault}
 use Rattle.row_rule.specs.declared.cell.Cell.{Cell}
 use Rattle.row_rule.specs.Row.{Agrees}
-use Rattle.tree_row.proofs.Decisions.{world_of, seen_of, torn_by}
+use Rattle.tree_row.specs.laws.Decisions.{world_of, seen_of, torn_by}
 use Rattle.tree_row.specs.Worlds.{SeesBy}
 use Rattle.open_session.specs.declared.outcome.Outcome.{Outcome}
 use Rattle.open_session.specs.declared.outcome.Lack.{Lack}

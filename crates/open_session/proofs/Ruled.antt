@@ -5,13 +5,13 @@ use Rattle.row_rule.specs.declared.view.WalkerView.{WalkerView}
 use Rattle.row_rule.specs.declared.view.View.TheVariants.{Keeps, Walks}
 use Rattle.row_rule.specs.Row.{count_of, FitsWalker}
 use Rattle.row_rule.specs.Steps.{ending}
-use Rattle.row_rule.proofs.Rule.{even_encodes}
+use Rattle.row_rule.specs.laws.Rule.{even_encodes}
 use Rattle.tree_row.specs.Rows.{row_length}
 use Rattle.row_plan.specs.Changes.{EncodesChanges}
 use Rattle.event_machine.specs.Machine.{Stage, Machine}
 use Rattle.event_machine.specs.Machine.Stage.{resting, begun, unpublished, policed, walking, checked}
 use Rattle.event_machine.specs.Rule.{view_of, KeepsRule}
-use Rattle.event_machine.proofs.Ruled.{fits_at}
+use Rattle.event_machine.specs.laws.Ruled.{fits_at}
 use Rattle.open_session.specs.Seen.{SawTree, SeesTree}
 
 -- what was read under an even count that is unchanged agrees with the row as it is

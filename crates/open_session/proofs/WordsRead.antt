@@ -8,8 +8,7 @@ use Rattle.std.specs.declared.cmp.Ordering.TheVariants.{Less, Equal, Greater}
 use Rattle.std.proofs.lemmas.Bool.{le-ltb, eq-eqb}
 use Rattle.std.proofs.lemmas.Bool.Decides.{eqb_tells}
 use Rattle.std.proofs.lemmas.List.Elements.{All-head, All-tail, All-cons}
-use Rattle.std.proofs.lemmas.Option.{get_or_from_slice_get}
-use Rattle.directory_tree.proofs.Basics.{some_inj}
+use Rattle.std.proofs.lemmas.Option.{get_or_from_slice_get, same_Some}
 use Rattle.row_rule.specs.declared.cell.Cell.{Cell}
 use Rattle.row_rule.specs.Row.{Agrees}
 use Rattle.tree_row.specs.Known.{known_at}
@@ -35,7 +34,7 @@ stands : (reads : List Cell) (row : List ℕ) (place word : ℕ) → word_in rea
     slice_index row place ≡ word
 stands [] row place word there agrees = absurd (cc there)
 stands (read ∷ reads) row place word there agrees = elim (eqb_tells place read.place) [
-  | inl same ↦ ap (slice_index row) same.1 ∙ get_or_from_slice_get row read.place read.word 0 agrees.0 ∙ some_inj read.word word
+  | inl same ↦ ap (slice_index row) same.1 ∙ get_or_from_slice_get row read.place read.word 0 agrees.0 ∙ same_Some read.word word
       (sym (ap (λ (b : Bool). if b then Some read.word else word_in reads place) same.0) ∙ there)
   | inr other ↦ stands reads row place word (sym (ap (λ (b : Bool). if b then Some read.word else word_in reads place) other.0) ∙ there)
       agrees.1

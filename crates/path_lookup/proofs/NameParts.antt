@@ -11,7 +11,7 @@ use Rattle.directory_tree.specs.Walk.{Spot, spot_of}
 use Rattle.directory_tree.specs.Walk.Spot.{Root, Held}
 use Rattle.directory_tree.specs.Spots.{Stands, shape_of, kind_at, component_at, directory_of}
 use Rattle.directory_tree.specs.Name.{name_up, directory_name, name_of}
-use Rattle.directory_tree.proofs.Basics.{none_is_some, some_inj}
+use Rattle.std.proofs.lemmas.Option.{none-some, same_Some}
 use Rattle.directory_tree.proofs.Depth.{Deep, deep, shallow, up_deep}
 
 -- the name down to an entry, without a slash after it
@@ -50,12 +50,12 @@ stem_spot t (suc m) d (e, is, other, up) =
 -- one step up
 pub stem_up : (t : Tree) → WellFormed t → (spot p : Spot) → Stands t spot → directory_of t spot ≡ Some p → (rest : List ℕ) →
     stem t spot ++ rest ≡ stem t p ++ slash ∷ (component_at spot ++ rest)
-stem_up t well Root p stands h rest = absurd (none_is_some p h)
+stem_up t well Root p stands h rest = absurd (none-some p h)
 stem_up t well (Held e) p stands h rest =
     let (n, l) = well.rooted e.of e.component e stands in
     let (m, low, up) = deep t.entries n e.of l in
     append_assoc (directory_name t e.of) (slash ∷ e.component) rest
-    ∙ ap (λ (z : List ℕ). z ++ slash ∷ (e.component ++ rest)) (stem_spot t m e.of up ∙ ap (stem t) (some_inj (spot_of t e.of) p h))
+    ∙ ap (λ (z : List ℕ). z ++ slash ∷ (e.component ++ rest)) (stem_spot t m e.of up ∙ ap (stem t) (same_Some (spot_of t e.of) p h))
 
 -- an entry of a directory has a component
 pub has_component : (t : Tree) → WellFormed t → (spot : Spot) → Stands t spot → IsSome (directory_of t spot) →

@@ -24,7 +24,7 @@ use Rattle.directory_tree.specs.Name.{directory_name, name_of, judged, longest_p
 use Rattle.directory_tree.specs.Apply.{Target, and_then, parent_of, directory_at}
 use Rattle.path_lookup.specs.Target.{IsSplit}
 use Rattle.directory_tree.specs.Place.{place_name, named_place}
-use Rattle.directory_tree.proofs.Basics.{ok_inj, err_is_ok}
+use Rattle.names.specs.laws.Results.{err-ok, same_Ok}
 use Rattle.directory_tree.proofs.Depth.{Deep, deep}
 use Rattle.directory_tree.proofs.Presence.{placed_at}
 use Rattle.path_lookup.proofs.NameParts.{stem, name_split, closing_directory, stem_spot}
@@ -73,8 +73,8 @@ place_behind t well s stands h component =
 pub judged_is : (name text : List ℕ) → judged name ≡ Ok text → name ≡ text
 judged_is name text h = elim (nat_lt longest_path (length name)) as (λ (b : Bool). (if b then Err ENAMETOOLONG else Ok name) ≡ Ok text →
     name ≡ text) [
-      | true ↦ λ q. absurd (err_is_ok ENAMETOOLONG text q)
-      | false ↦ λ q. ok_inj name text q
+      | true ↦ λ q. absurd (err-ok ENAMETOOLONG text q)
+      | false ↦ λ q. same_Ok name text q
     ] h
 
 -- where a name is too long, a longer one is
@@ -82,7 +82,7 @@ pub judged_more : (name more : List ℕ) (errno : Errno) → judged name ≡ Err
 judged_more name more errno h = elim (nat_lt longest_path (length name)) as (λ (b : Bool). nat_lt longest_path (length name) ≡ b →
     (if b then Err ENAMETOOLONG else Ok name) ≡ Err errno → judged (name ++ more) ≡ Err errno) [
       | true ↦ λ long q. ap (λ (b : Bool). if b then Err ENAMETOOLONG else Ok (name ++ more)) (longer long) ∙ q
-      | false ↦ λ short q. absurd (err_is_ok errno name (sym q))
+      | false ↦ λ short q. absurd (err-ok errno name (sym q))
     ] refl h
   where
     longer : nat_lt longest_path (length name) ≡ true → nat_lt longest_path (length (name ++ more)) ≡ true

@@ -10,7 +10,8 @@ use Rattle.names.specs.Paths.{begins_with_slash}
 use Rattle.path_lookup.specs.declared.target.EndSlash.{EndSlash}
 use Rattle.path_lookup.specs.declared.target.SplitPath.{SplitPath}
 use Rattle.path_lookup.specs.Target.{IsSplit, AreShort}
-use Rattle.directory_tree.proofs.Basics.{none_is_some, both_false}
+use Rattle.std.proofs.lemmas.Option.{none-some}
+use Rattle.std.proofs.lemmas.Bool.{or_parts}
 
 -- a short path has short components
 pub no_long : (text : List ℕ) → has_long_component text ≡ list_any (λ c. nat_lt 255 (length c)) (filled_parts text)
@@ -32,19 +33,19 @@ pub last_fits : (path before last : List ℕ) → has_long_component path ≡ fa
 last_fits path before last h is =
     let none : list_any (λ c. nat_lt 255 (length c)) (filled_parts before ++ last ∷ []) ≡ false =
     sym (no_long path ∙ ap (list_any (λ (c : List ℕ). nat_lt 255 (length c))) is) ∙ h in
-    let both = both_false (list_any (λ c. nat_lt 255 (length c)) (filled_parts before)) (list_any (λ c. nat_lt 255 (length c)) (last ∷ []))
+    let both = or_parts (list_any (λ c. nat_lt 255 (length c)) (filled_parts before)) (list_any (λ c. nat_lt 255 (length c)) (last ∷ []))
     (sym (list_any-append (λ c. nat_lt 255 (length c)) (filled_parts before) (last ∷ [])) ∙ none) in
-    let short : nat_lt 255 (length last) ≡ false = (both_false (nat_lt 255 (length last)) false both.1).0 in
+    let short : nat_lt 255 (length last) ≡ false = (or_parts (nat_lt 255 (length last)) false both.1).0 in
     grind (arith, nat_tests)
 
 -- what passes the tests of a path is short
 last_tests : (a b c d e : Bool) → (if a then Some ENOENT else if b then Some EINVAL else if c then Some EINVAL else if d then
     Some ENAMETOOLONG else if e then Some ENAMETOOLONG else None) ≡ None → (d ≡ false) × (e ≡ false)
-last_tests true b c d e h = absurd (none_is_some ENOENT (sym h))
-last_tests false true c d e h = absurd (none_is_some EINVAL (sym h))
-last_tests false false true d e h = absurd (none_is_some EINVAL (sym h))
-last_tests false false false true e h = absurd (none_is_some ENAMETOOLONG (sym h))
-last_tests false false false false true h = absurd (none_is_some ENAMETOOLONG (sym h))
+last_tests true b c d e h = absurd (none-some ENOENT (sym h))
+last_tests false true c d e h = absurd (none-some EINVAL (sym h))
+last_tests false false true d e h = absurd (none-some EINVAL (sym h))
+last_tests false false false true e h = absurd (none-some ENAMETOOLONG (sym h))
+last_tests false false false false true h = absurd (none-some ENAMETOOLONG (sym h))
 last_tests false false false false false h = (refl, refl)
 
 pub path_short : (path : List ℕ) → path_fault path ≡ None → (nat_lt 4095 (length path) ≡ false) × (has_long_component path ≡ false)

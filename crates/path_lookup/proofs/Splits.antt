@@ -1,6 +1,6 @@
 -- A path that is split before its last component.
 use Rattle.std.proofs.Common.{◌≡◌, ℕ, ◌+◌, ◌-◌, ◌<◌, ◌≤◌, ◌==◌, ◌&&◌, Bool, true, false, List, [], ◌∷◌, ◌++◌, length, take, get_or, sym}
-use Rattle.std.proofs.Common.{refl, ap, ◌∙◌, arith, add-one, eq-eqb, length-append}
+use Rattle.std.proofs.Common.{refl, ap, ◌∙◌, arith, add-one, eq-eqb, length-append, true≢false}
 use Rattle.std.specs.Prelude.{if◌then◌else◌, Ok, Err}
 use mathlib.Core.Logic.{◌⊎◌, ◌≢◌, inl, inr, ⊎_elim}
 use Rattle.std.specs.List.{list_any}
@@ -13,7 +13,6 @@ use Rattle.names.specs.Paths.{is_slash, filled_parts, ends_with_slash}
 use Rattle.directory_tree.specs.Components.{is_filled, slash}
 use Rattle.directory_tree.specs.Apply.{Target, target_from, target_of, tested, is_dots}
 use Rattle.path_lookup.specs.Target.{is_refused, target_for}
-use Rattle.directory_tree.proofs.Basics.{true_is_false}
 use Rattle.directory_tree.proofs.Texts.{names_more, names_closed, ends_closed}
 
 pub ends_last : (xs : List ℕ) (b : ℕ) → ends_with_slash (xs ++ b ∷ []) ≡ (b == slash)
@@ -32,7 +31,7 @@ pub ends_cut : (text : List ℕ) (k e : ℕ) → e ≡ k + 1 → k < length text
 ends_cut text k e is low = ap ends_with_slash (one_more text k e is low) ∙ ends_last (take k text) (get_or text k 0)
 
 last_filled : (front last : List ℕ) → ends_with_slash (front ++ slash ∷ last) ≡ false → is_filled last ≡ true
-last_filled front [] h = absurd (true_is_false (sym (ends_closed front) ∙ h))
+last_filled front [] h = absurd (true≢false (sym (ends_closed front) ∙ h))
 last_filled front (b ∷ last) h = refl
 
 pub split_names : (text front last : List ℕ) → is_filled text ≡ true → ends_with_slash text ≡ false →
@@ -72,7 +71,7 @@ target_slash slash path before last h refused ends =
     ∙ (λ i. if refused i && ends i then Err EINVAL else tested record { before = filled_parts before; last = last })
 
 both_no : (a b : Bool) → (a ≡ false) ⊎ (b ≡ false) → (a && b) ≡ false
-both_no true b (inl h) = absurd (true_is_false h)
+both_no true b (inl h) = absurd (true≢false h)
 both_no true b (inr h) = h
 both_no false b h = refl
 

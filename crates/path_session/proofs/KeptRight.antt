@@ -11,9 +11,9 @@ use Rattle.mediation.specs.Deeds.{Deed, policy_after}
 use Rattle.mediation.specs.Judge.{Judge, verdict_by}
 use Rattle.mediation.specs.Opens.{Reached, reached}
 use Rattle.justification.specs.declared.answer.Answer.TheVariants.{Judged}
-use Rattle.justification.proofs.Later.{justified_stays, tree_stays}
+use Rattle.justification.specs.laws.Later.{justified_stays, tree_stays}
 use Rattle.justification.specs.Versions.{IsTreeAt}
-use Rattle.profile_registry.proofs.Prefixes.{prefix_self}
+use Rattle.profile_registry.specs.laws.Prefixes.{prefix_self}
 use Rattle.profile_registry.specs.Views.{Reading}
 use Rattle.names.specs.declared.permissions.Perms.{Perms}
 use Rattle.names.specs.declared.verdict.Verdict.{Verdict}

@@ -1,5 +1,4 @@
 pub mod SeenWalks
-pub mod KeeperStates
 pub mod ThreadSafety
 pub mod SharesKept
 pub mod KeptRight

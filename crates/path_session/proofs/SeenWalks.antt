@@ -10,7 +10,7 @@ use Rattle.row_rule.specs.Row.{Agrees}
 use Rattle.dentry_cache.specs.Walks.{Walk}
 use Rattle.dentry_cache.specs.Told.{SeesAfter}
 use Rattle.justification.specs.Versions.{IsTreeAt}
-use Rattle.directory_tree.proofs.Rooms.{roomy_after}
+use Rattle.directory_tree.specs.laws.Rooms.{roomy_after}
 
 -- the tree of all changes is that of their number
 pub tree_at : (capacity : ℕ) (changes : List Change) (version : ℕ) (t : Tree) → version ≡ length changes → tree_after capacity changes

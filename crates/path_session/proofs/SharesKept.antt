@@ -7,11 +7,11 @@ use Rattle.std.specs.Option.{option_map, option_eq}
 use Rattle.std.specs.declared.alloc.Global.{Global}
 use Rattle.std.specs.declared.sync.Arc.{Arc}
 use mathlib.Core.List.{IsPrefix}
-use Rattle.justification.proofs.Later.{prefix_is_shorter, first_stay}
+use Rattle.justification.specs.laws.Later.{prefix_is_shorter, first_stay}
 use Rattle.matcher.specs.declared.profiles.AnyProfile.{AnyProfile}
 use Rattle.mediation.specs.Deeds.{Deed, policy_after}
 use Rattle.mediation.specs.PolicyChanges.{judge_shared}
-use Rattle.profile_registry.proofs.Prefixes.{prefix_whole}
+use Rattle.profile_registry.specs.laws.Prefixes.{prefix_whole}
 use Rattle.profile_registry.specs.Views.{Reading}
 use Rattle.path_session.specs.inner.Shares.{IsShareOf, IsInStep}
 

@@ -5,7 +5,7 @@ use Rattle.std.proofs.lemmas.List.Elements.{All-nil, All-cons, All-head, All-tai
 use Rattle.std.specs.declared.vec.Vec.{Vec}
 use Rattle.std.specs.declared.alloc.Global.{Global}
 use Rattle.names.specs.declared.permissions.Perms.{Perms}
-use Rattle.justification.proofs.Later.{justified_stays}
+use Rattle.justification.specs.laws.Later.{justified_stays}
 use Rattle.justification.specs.Justified.{Justified}
 use Rattle.justification.specs.declared.answer.Answer.{Answer}
 use Rattle.justification.specs.declared.answer.Answer.TheVariants.{Judged, Failed, NoProfile, Busy, NoEntry}

@@ -1,6 +1,6 @@
 -- A change that is carried out: what the store asks for, and what the plain tree holds afterwards.
 use Rattle.std.proofs.Common.{◌≡◌, ℕ, ◌+◌, ◌-◌, ◌≤◌, ◌==◌, Bool, true, false, List, [], ◌∷◌, ◌++◌, length, Some, None, Option, sym, refl}
-use Rattle.std.proofs.Common.{ap, ◌∙◌, subst, arith, length-append}
+use Rattle.std.proofs.Common.{ap, ◌∙◌, subst, arith, length-append, true≢false}
 use Rattle.std.specs.Prelude.{if◌then◌else◌, Ok, Err, Result, IsSome, is_some, IsTrue, ◌↔◌, OnOk}
 use Rattle.std.specs.Result.{is_err}
 use Rattle.std.specs.Option.{option_map}
@@ -12,15 +12,15 @@ use Rattle.directory_tree.specs.Apply.{with_entry, without, placed, dropped, mov
 use Rattle.directory_tree.specs.Plain.{Plain, tree_of, outcome}
 use Rattle.plain_tree.specs.inner.Store.{stored_node, Enters, Leaves, Shifts, IsOpened, IsLoose, Differ}
 use Rattle.plain_tree.specs.inner.Mirror.{Mirrors, Holds, IsShort, IsEmptied, AreOther, node_for, some_parent}
-use Rattle.directory_tree.proofs.Basics.{true_is_false, none_is_some}
-use Rattle.directory_tree.proofs.Found.{Apart, empty_none, without-none}
+use Rattle.std.proofs.lemmas.Option.{none-some}
+use Rattle.directory_tree.specs.laws.Found.{Apart, empty_none, without-none}
 use Rattle.directory_tree.proofs.Presence.{placed_at}
 use Rattle.directory_tree.proofs.Placement.{is_node, node_same, length_dropped, length_placed, none_empty}
 use Rattle.plain_tree.proofs.Mirrors.{mirrors_entered, mirrors_left, mirrors_shifted}
 use Rattle.plain_tree.proofs.Held.{well_changed, holds_well, holds_step, short_entered, short_dropped, short_moved}
 
 pub some_of : {X : Type 0} (o : Option X) → IsSome o → (x : X) × (o ≡ Some x)
-some_of None h = absurd (true_is_false (sym h))
+some_of None h = absurd (true≢false (sym h))
 some_of (Some x) h = (x, refl)
 
 module _ (s : Store) (t : Tree) (m : Mirrors s t) (well : WellFormed t) where
@@ -49,7 +49,7 @@ module _ (s : Store) (t : Tree) (m : Mirrors s t) (well : WellFormed t) where
       (apart_nodes (find t.entries of c) (find t.entries into name) h))
     where
       apart_nodes : (a b : Option Entry) → AreOther a b → Differ (option_map node_for a) (option_map node_for b)
-      apart_nodes None b k d p = absurd (true_is_false (sym p))
+      apart_nodes None b k d p = absurd (true≢false (sym p))
       apart_nodes (Some e) None k d p = refl
       apart_nodes (Some e) (Some z) k d p = elim (is_node z d) as (λ (x : Bool). is_node z d ≡ x → x ≡ false) [
         | true ↦ λ q. absurd (k ((node_same z d q).0 ∙ sym (node_same e d p).0))
@@ -160,8 +160,8 @@ empty_told s t d b m h = elim b as (λ (k : Bool). (IsTrue k → (q : List ℕ) 
   where
     unmapped : (o : Option Entry) → option_map node_for o ≡ None → o ≡ None
     unmapped None e = refl
-    unmapped (Some x) e = absurd (none_is_some (node_for x) (sym e))
+    unmapped (Some x) e = absurd (none-some (node_for x) (sym e))
 
 pub on_ok : {X E : Type 0} (r : Result X E) {P : Type 0} → false ≡ is_err r → OnOk r P → P
 on_ok (Ok x) fine h = h
-on_ok (Err e) fine h = absurd (true_is_false (sym fine))
+on_ok (Err e) fine h = absurd (true≢false (sym fine))

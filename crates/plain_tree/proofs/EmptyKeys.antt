@@ -7,7 +7,8 @@ use Rattle.std.specs.declared.vec.Vec.{Vec}
 use Rattle.std.specs.BTreeMap.{is_at}
 use Rattle.std.specs.Map.{lookup}
 use Rattle.std.proofs.lemmas.Map.Text.{is_eq-slice_cmp}
-use Rattle.directory_tree.proofs.Basics.{bytes_same, none_is_some}
+use Rattle.std.proofs.lemmas.Slice.Eq.{bytes_eq-Decides}
+use Rattle.std.proofs.lemmas.Option.{none-some}
 
 pub empty_bytes : {Z X : Type 0} (es : List (Vec ℕ Z × X)) → (length es ≡ 0)
     ↔ ((c : List ℕ) → lookup (is_at (λ k. slice_cmp nat_cmp c k.items)) es ≡ None)
@@ -16,7 +17,7 @@ empty_bytes (e ∷ es) = (
   (λ h. absurd (omega arith)),
   (λ h.
       let here : is_eq (slice_cmp nat_cmp e.0.items e.0.items) ≡ true = is_eq-slice_cmp e.0.items e.0.items
-      ∙ bytes_same e.0.items e.0.items refl in
-      absurd (none_is_some e.1
+      ∙ (bytes_eq-Decides e.0.items e.0.items).1 refl in
+      absurd (none-some e.1
       (sym (h e.0.items) ∙ ap (λ (b : Bool). cond b (Some e.1) (lookup (is_at (λ k. slice_cmp nat_cmp e.0.items k.items)) es)) here))),
 )

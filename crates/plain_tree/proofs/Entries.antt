@@ -1,6 +1,6 @@
 -- An entry of a plain tree, and what it stands for.
 use Rattle.std.proofs.Common.{◌≡◌, ℕ, ◌≤◌, ◌==◌, Bool, true, false, List, length, Bor, Some, None, Option, sym, refl, ap, ◌∙◌, subst}
-use Rattle.std.proofs.Common.{eqb-true, ne_eqb, arith}
+use Rattle.std.proofs.Common.{eqb-true, ne_eqb, arith, true≢false}
 use Rattle.std.specs.Prelude.{if◌then◌else◌, IsSome, is_some, IfSome}
 use Rattle.directory_tree.proofs.Placement.{root_nowhere}
 use Rattle.std.specs.Option.{option_map, option_copied}
@@ -15,8 +15,8 @@ use Rattle.directory_tree.specs.Walk.Spot.{Root, Held}
 use Rattle.directory_tree.specs.Spots.{component_at, directory_of}
 use Rattle.plain_tree.specs.inner.Mirror.{node_for, parent_for, some_parent, stands_at, IsShortText}
 use Rattle.plain_tree.specs.PlainEntry.{key_component, spot_at, means_in, knows_in}
-use Rattle.directory_tree.proofs.Basics.{some_inj, none_is_some, true_is_false}
-use Rattle.directory_tree.proofs.Found.{found_at}
+use Rattle.std.proofs.lemmas.Option.{none-some, same_Some}
+use Rattle.directory_tree.specs.laws.Found.{found_at}
 use Rattle.directory_tree.proofs.Walks.{own_entry_found}
 use Rattle.plain_tree.proofs.Held.{AllShort}
 use Rattle.plain_tree.proofs.Carried.{some_of}
@@ -31,16 +31,16 @@ pub text_fits : (t : Tree) (d : ℕ) (c : List ℕ) (n : Node) → AllShort t �
     IsShortText n.kind
 text_fits t d c n short h = elim (find t.entries d c) as (λ (o : Option Entry). find t.entries d c ≡ o → Some n ≡ option_map node_for o →
     IsShortText n.kind) [
-      | None ↦ λ is q. absurd (none_is_some n (sym q))
-      | Some e ↦ λ is q. subst (λ (m : Node). IsShortText m.kind) (some_inj (node_for e) n (sym q)) (short d c e is).text_fits
+      | None ↦ λ is q. absurd (none-some n (sym q))
+      | Some e ↦ λ is q. subst (λ (m : Node). IsShortText m.kind) (same_Some (node_for e) n (sym q)) (short d c e is).text_fits
     ] refl h
 
 pub parent_fits : (t : Tree) (d : ℕ) (p : Parent) → WellFormed t → AllShort t → Some p ≡ option_map parent_for (own_entry t.entries d) →
     length p.component ≤ 255
 parent_fits t d p well short h = elim (own_entry t.entries d) as (λ (o : Option Entry). own_entry t.entries d ≡ o →
     Some p ≡ option_map parent_for o → length p.component ≤ 255) [
-      | None ↦ λ is q. absurd (none_is_some p (sym q))
-      | Some e ↦ λ is q. subst (λ (x : Parent). length x.component ≤ 255) (some_inj (parent_for e) p (sym q))
+      | None ↦ λ is q. absurd (none-some p (sym q))
+      | Some e ↦ λ is q. subst (λ (x : Parent). length x.component ≤ 255) (same_Some (parent_for e) p (sym q))
           (short e.of e.component e (own_entry_found t.entries d e well.distinct is).found).component_fits
     ] refl h
 
@@ -51,7 +51,7 @@ mapped_some (Some e) h = h
 -- the same for what a search returns
 pub node_fits : (t : Tree) (d : ℕ) (c : List ℕ) (r : Option (Bor Node)) → AllShort t → option_copied r ≡ option_map node_for
     (find t.entries d c) → IsSome r → length c ≤ 255
-node_fits t d c None short h some = absurd (true_is_false (sym some))
+node_fits t d c None short h some = absurd (true≢false (sym some))
 node_fits t d c (Some n) short h some = found_fits t d c short (mapped_some (find t.entries d c) (sym (ap is_some h)))
 
 pub node_text : (t : Tree) (d : ℕ) (c : List ℕ) (r : Option (Bor Node)) → AllShort t → option_copied r ≡ option_map node_for
@@ -90,7 +90,7 @@ parent_none t d h = elim (d == root) as (λ (b : Bool). spot_from b (own_entry t
   | true ↦ refl
   | false ↦ elim (own_entry t.entries d) as (λ (o : Option Entry). None ≡ option_map parent_for o → spot_from false o ≡ Root) [
     | None ↦ λ q. refl
-    | Some y ↦ λ q. absurd (none_is_some (parent_for y) q)
+    | Some y ↦ λ q. absurd (none-some (parent_for y) q)
   ] h
 ]
 
@@ -99,15 +99,15 @@ pub parent_some : (t : Tree) (d : ℕ) (p : Parent) (k : EntryKey) → WellForme
     → IsSome (find t.entries k.of (key_component k)) × (spot_of t d ≡ means_in t (entry.Held k))
 parent_some t d p k well h of component = elim (own_entry t.entries d) as (λ (o : Option Entry). own_entry t.entries d ≡ o →
     Some p ≡ option_map parent_for o → IsSome (find t.entries k.of (key_component k)) × (spot_of t d ≡ means_in t (entry.Held k))) [
-      | None ↦ λ is q. absurd (none_is_some p (sym q))
+      | None ↦ λ is q. absurd (none-some p (sym q))
       | Some y ↦ λ is q.
-          let same : parent_for y ≡ p = some_inj (parent_for y) p (sym q) in
+          let same : parent_for y ≡ p = same_Some (parent_for y) p (sym q) in
           let at = own_entry_found t.entries d y well.distinct is in
           let found : find t.entries k.of (key_component k) ≡ Some y =
           (λ i. find t.entries ((of ∙ ap (λ (x : Parent). x.of) (sym same)) i)
           ((component ∙ ap (λ (x : Parent). x.component) (sym same)) i)) ∙ at.found in
           let past : (d == root) ≡ false = elim (d == root) as (λ (b : Bool). (d == root) ≡ b → b ≡ false) [
-            | true ↦ λ e. absurd (none_is_some y (sym (root_nowhere t well) ∙ ap (own_entry t.entries) (sym (eqb-true d root e)) ∙ is))
+            | true ↦ λ e. absurd (none-some y (sym (root_nowhere t well) ∙ ap (own_entry t.entries) (sym (eqb-true d root e)) ∙ is))
             | false ↦ λ e. refl
           ] refl in (
             ap is_some found,

@@ -11,12 +11,12 @@ use Rattle.directory_tree.specs.Plain.{Plain, tree_of, new_plain, changed, outco
 use Rattle.std.specs.Option.{option_map}
 use Rattle.plain_tree.specs.inner.Store.{known_parent}
 use Rattle.plain_tree.specs.inner.Mirror.{Mirrors, Holds, IsShort, parent_for, some_parent, stands_at}
-use Rattle.directory_tree.proofs.Basics.{some_inj, none_is_some}
-use Rattle.directory_tree.proofs.Found.{Apart}
+use Rattle.std.proofs.lemmas.Option.{none-some, same_Some}
+use Rattle.directory_tree.specs.laws.Found.{Apart}
 use Rattle.directory_tree.proofs.Changes.{tree_after_well}
 use Rattle.directory_tree.proofs.Placement.{root_nowhere, is_key, find_entered, after_moved}
 use Rattle.directory_tree.proofs.Drops.{without_old}
-use Rattle.directory_tree.proofs.OneMore.{after_more}
+use Rattle.directory_tree.specs.laws.OneMore.{after_more}
 
 module _ (p : Plain) (change : Change) (u : Tree) (accepted : tree_after p.capacity p.history ≡ Ok (tree_of p))
     (is : outcome p change ≡ Ok u) where
@@ -62,7 +62,7 @@ holds_new s capacity fits m = record {
   version = refl;
   few = omega arith;
   short =
-      λ d c e h. absurd (none_is_some e h);
+      λ d c e h. absurd (none-some e h);
 }
 
 -- short components and texts stay so
@@ -70,7 +70,7 @@ pub short_entered : (t : Tree) (x : Entry) (next : ℕ) → find t.entries x.of 
     AllShort (with_entry t x next)
 short_entered t x next free all one d c e h =
     elim (is_key x.of x.component d c) as (λ (b : Bool). (if b then Some x else find t.entries d c) ≡ Some e → IsShort e) [
-      | true ↦ λ q. subst IsShort (some_inj x e q) one
+      | true ↦ λ q. subst IsShort (same_Some x e q) one
       | false ↦ λ q. all d c e q
     ] (sym (find_entered t x next free d c) ∙ h)
 

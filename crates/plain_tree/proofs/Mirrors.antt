@@ -1,6 +1,6 @@
 -- A store that holds the entries of a tree holds those of the next after each change.
 use Rattle.std.proofs.Common.{◌≡◌, ℕ, ◌==◌, ◌&&◌, Bool, true, false, List, Some, None, Option, sym, refl, ap, ◌∙◌, arith, eqb-true, eq-eqb}
-use Rattle.std.proofs.Common.{ne_eqb}
+use Rattle.std.proofs.Common.{ne_eqb, true≢false}
 use Rattle.std.specs.Prelude.{if◌then◌else◌, bytes_eq}
 use Rattle.std.specs.Option.{option_map}
 use Rattle.plain_tree.specs.declared.directory.Node.{Node}
@@ -10,8 +10,8 @@ use Rattle.directory_tree.specs.Tree.{Tree, Entry, WellFormed, root, root_alone,
 use Rattle.directory_tree.specs.Apply.{entry, with_entry, dropped, moved}
 use Rattle.plain_tree.specs.inner.Store.{stored_node, stored_parent, new_parent, is_numbered, Enters, Leaves, Shifts, SetsParent}
 use Rattle.plain_tree.specs.inner.Mirror.{Mirrors, node_for, some_parent, stands_at}
-use Rattle.directory_tree.proofs.Basics.{true_is_false, bytes_same}
-use Rattle.directory_tree.proofs.Found.{Apart}
+use Rattle.std.proofs.lemmas.Slice.Eq.{bytes_eq-Decides}
+use Rattle.directory_tree.specs.laws.Found.{Apart}
 use Rattle.directory_tree.proofs.Placement.{is_key, is_node, node_same, find_entered, own_entry_entered, find_dropped, own_entry_dropped}
 use Rattle.directory_tree.proofs.Placement.{find_moved, own_entry_moved, is_gone, gone_found}
 
@@ -30,7 +30,7 @@ mirrors_root s u none empty sets = record {
       ∙ elim (d == root) as (λ (b : Bool). (d == root) ≡ b → (if root == d then at_top else nowhere) ≡ (if b then at_top else nowhere)) [
         | true ↦ λ q. ap (λ (b : Bool). if b then at_top else nowhere) (eq-eqb root d (sym (eqb-true d root q)))
         | false ↦ λ q. ap (λ (b : Bool). if b then at_top else nowhere)
-            (ne_eqb root d (λ e. true_is_false (sym (eq-eqb d root (sym e)) ∙ q)))
+            (ne_eqb root d (λ e. true≢false (sym (eq-eqb d root (sym e)) ∙ q)))
       ] refl;
 }
 
@@ -68,7 +68,7 @@ mirrors_entered s u t x next m free well_t well_u e = record {
 }
   where
     own : (of : ℕ) (c : List ℕ) → is_key of c of c ≡ true
-    own of c = ap (λ (b : Bool). b && bytes_eq c c) (eq-eqb of of refl) ∙ bytes_same c c refl
+    own of c = ap (λ (b : Bool). b && bytes_eq c c) (eq-eqb of of refl) ∙ (bytes_eq-Decides c c).1 refl
 
 numbered_is : (o : Option Entry) (d : ℕ) → is_numbered (option_map node_for o) d ≡ is_gone o d
 numbered_is None d = refl

@@ -8,13 +8,13 @@ use Rattle.names.specs.Paths.{IsName}
 use Rattle.automaton_rows.specs.Automata.{state_after}
 use Rattle.automaton_search.specs.declared.states.States.{States}
 use Rattle.automaton_search.specs.Visits.{VisitsValue, states_after}
-use Rattle.automaton_search.proofs.Orders.{at_most_through}
+use Rattle.automaton_search.specs.laws.Orders.{at_most_through}
 use Rattle.profile_questions.specs.declared.answer.Answers.{Answers}
 use Rattle.profile_questions.specs.Names.{CompiledValue}
 use Rattle.profile_questions.specs.Questions.{IsFound, IsShortest}
 use Rattle.profile_questions.specs.inner.Comparisons.{IsComparison, compared}
 use Rattle.profile_questions.specs.inner.Marks.{AreMarked, all_marked}
-use Rattle.profile_questions.proofs.RecordAnswers.{marked_answer}
+use Rattle.profile_questions.specs.laws.RecordAnswers.{marked_answer}
 
 -- no visit before this one is of marked states
 abbrev pub NoneMarked : VisitsValue → List Bool → List Bool → List Bool → ℕ → Type 0

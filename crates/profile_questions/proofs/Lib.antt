@@ -1,4 +1,3 @@
-pub mod RecordAnswers
 pub mod LeastNames
 pub mod ReachedNames
 pub mod Representatives

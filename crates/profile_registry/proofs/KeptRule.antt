@@ -21,7 +21,7 @@ use Rattle.mediation.specs.PolicyChanges.{deed_of}
 use Rattle.profile_registry.specs.Rule.{policy_of, IsMadeBy, IsPublished, newcomer, sees, publishes, learned}
 use Rattle.profile_registry.specs.inner.Contents.{contents_of, with_change}
 use Rattle.profile_registry.specs.inner.Names.{Profiles, profiles_after}
-use Rattle.profile_registry.proofs.Prefixes.{prefix_self, prefix_none, prefix_whole, prefix_more}
+use Rattle.profile_registry.specs.laws.Prefixes.{prefix_self, prefix_none, prefix_whole, prefix_more}
 use Rattle.profile_registry.proofs.StoreLookUps.{got}
 
 -- a map, as a policy

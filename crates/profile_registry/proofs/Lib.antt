@@ -1,4 +1,3 @@
-pub mod Prefixes
 pub mod StoreLookUps
 pub mod KeptRule
 pub mod ThreadSafety

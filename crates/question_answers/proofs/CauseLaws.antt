@@ -10,14 +10,14 @@ use Rattle.names.specs.declared.permissions.Permission.{Permission}
 use Rattle.names.specs.declared.permissions.Perms.{Perms}
 use Rattle.names.specs.declared.record.LeastHits.{LeastHits}
 use Rattle.names.specs.declared.verdict.Verdict.TheVariants as verdicts
-use Rattle.names.proofs.LeastNumbers.{least_none}
+use Rattle.names.specs.laws.LeastNumbers.{least_none}
 use Rattle.automaton_search.specs.Order.{IsAtMost}
 use Rattle.profile_questions.specs.Names.{AreLeastHits, AreRepresentatives, ComparisonValue, IsAlike}
 use Rattle.profile_questions.specs.Questions.{IsAnswer, IsFound}
 use Rattle.profile_questions.specs.declared.answer.Answer.{Answer}
 use Rattle.profile_questions.specs.declared.answer.Answer.TheVariants as answer
 use Rattle.profile_questions.specs.declared.comparison.Records.{Records}
-use Rattle.profile_questions.proofs.RecordAnswers.{answer_told}
+use Rattle.profile_questions.specs.laws.RecordAnswers.{answer_told}
 use Rattle.rule_explain.specs.Reasons.{IsReason}
 use Rattle.rule_explain.specs.declared.reason.Reason.{Reason}
 use Rattle.rule_explain.specs.declared.reason.Reason.TheVariants as reason

@@ -10,7 +10,7 @@ use Rattle.names.specs.Permissions.{all_permissions, has, index, permission_coun
 use Rattle.names.specs.declared.permissions.Permission.{Permission}
 use Rattle.names.specs.declared.permissions.Perms.{Perms}
 use Rattle.profile_questions.specs.declared.comparison.Records.{Records}
-use Rattle.automaton_search.proofs.Lists.{get_either, get_last, get_stays}
+use Rattle.automaton_search.specs.laws.Lists.{get_either, get_last, get_stays}
 use Rattle.question_answers.specs.declared.cause.Causes.{Causes}
 use Rattle.question_answers.specs.inner.Causes.{AreCauses, AreNoted, IsIn, causes_at}
 

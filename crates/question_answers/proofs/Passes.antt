@@ -4,8 +4,8 @@ use Rattle.std.proofs.Common.{sym, ap, ◌∙◌, subst, arith}
 use Rattle.std.proofs.lemmas.Bool.{cases_lt}
 use Rattle.std.proofs.lemmas.Option.{none-some, same_Some, slice_get_within}
 use Rattle.automaton_search.specs.Order.{IsAtMost, IsLess}
-use Rattle.automaton_search.proofs.Lists.{get_either, get_last, get_stays}
-use Rattle.automaton_search.proofs.Orders.{at_most_through}
+use Rattle.automaton_search.specs.laws.Lists.{get_either, get_last, get_stays}
+use Rattle.automaton_search.specs.laws.Orders.{at_most_through}
 use Rattle.question_answers.specs.Below.{IsLeastName}
 use Rattle.question_answers.specs.LeastNames.{AreLeastNames, IsListed}
 

@@ -4,7 +4,7 @@ use Rattle.names.specs.Permissions.{only}
 use Rattle.names.specs.declared.kind.RuleKind.{RuleKind}
 use Rattle.names.specs.declared.permissions.Permission.{Permission}
 use Rattle.names.specs.declared.permissions.Perms.{Perms}
-use Rattle.names.proofs.PermsLaws.{has-only, only_one}
+use Rattle.names.specs.laws.PermissionSets.{has-only, only_one}
 use Rattle.profile_questions.specs.Names.{ComparisonValue}
 use Rattle.profile_questions.specs.declared.answer.Answer.TheVariants as answer
 use Rattle.rule_explain.specs.Reasons.{IsReason, NoHit}

@@ -1,8 +1,6 @@
 pub mod Rounds
-pub mod Sizes
 pub mod Upkeep
 pub mod Vacancies
 pub mod Edited
 pub mod Cells
 pub mod Undeleted
-pub mod Homes

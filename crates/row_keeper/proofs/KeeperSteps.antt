@@ -1,6 +1,6 @@
 -- The invariant between the parts of a keeper, before and after each step.
 use Rattle.std.proofs.Common.{◌≡◌, ◌≢◌, ℕ, suc, ◌+◌, ◌<◌, ◌≤◌, Bool, true, false, List, [], ◌∷◌, ◌++◌, length, drop, Some, None, Option}
-use Rattle.std.proofs.Common.{sym, refl, ap, ◌∙◌, subst, arith, get_or, length-drop, drop-cons}
+use Rattle.std.proofs.Common.{sym, refl, ap, ◌∙◌, subst, arith, get_or, length-drop, drop-cons, true≢false}
 use Rattle.std.proofs.lemmas.List.{drop_all}
 use Rattle.std.proofs.lemmas.Bool.{lt-ltb, ltb-true}
 use Rattle.std.specs.Prelude.{Vec, Ok, Err, IsOk, slice_set, nat_lt, if◌then◌else◌}
@@ -15,14 +15,15 @@ use Rattle.directory_tree.specs.declared.change.Change.{Change}
 use Rattle.directory_tree.specs.declared.change.Change.TheVariants as change
 use Rattle.directory_tree.specs.Tree.{Tree, root_alone}
 use Rattle.directory_tree.specs.Apply.{Changed, apply, apply_counted, has_room, most_changes, tree_after}
-use Rattle.directory_tree.proofs.Basics.{ok_inj, err_is_ok, none_is_some, true_is_false}
+use Rattle.names.specs.laws.Results.{err-ok, same_Ok}
+use Rattle.std.proofs.lemmas.Option.{none-some}
 use Rattle.directory_tree.proofs.Changes.{tree_after_well}
 use Rattle.path_lookup.specs.World.{World}
-use Rattle.directory_tree.proofs.OneMore.{after_more}
+use Rattle.directory_tree.specs.laws.OneMore.{after_more}
 use Rattle.tree_row.specs.Slots.{slot_at}
 use Rattle.tree_row.specs.Worlds.{spot_at, EncodesWorld}
 use Rattle.tree_row.specs.OpeningRow.{opening_row}
-use Rattle.tree_row.proofs.OpeningRow as opening_row_is
+use Rattle.tree_row.specs.laws.OpeningRow as opening_row_is
 use Rattle.row_rule.specs.declared.cell.Cell.{Cell}
 use Rattle.row_rule.specs.declared.view.KeeperView.{KeeperView}
 use Rattle.row_rule.specs.declared.view.Pending.{Pending}
@@ -75,17 +76,17 @@ module _ (capacity : ℕ) (history : List Change) (t : Tree) (made : tree_after 
       (if b then apply t (has_room capacity t) change else Err EOVERFLOW) ≡ Ok u → (length history < most_changes)
       × (apply t (has_room capacity t) change ≡ Ok u)) [
         | true ↦ λ q h. (ltb-true (length history) most_changes q, h)
-        | false ↦ λ q h. absurd (err_is_ok EOVERFLOW u h)
+        | false ↦ λ q h. absurd (err-ok EOVERFLOW u h)
       ] refl (sym more ∙ is)
 
 -- no change is open if the field says so, and if the view says so
 pub is_none : (opened : Option OpenChange) → is_some opened ≡ false → opened ≡ None
 is_none None h = refl
-is_none (Some o) h = absurd (true_is_false h)
+is_none (Some o) h = absurd (true≢false h)
 
 none_open : (opened : Option OpenChange) (set : ℕ) → pending_of opened set ≡ None → opened ≡ None
 none_open None set h = refl
-none_open (Some o) set h = absurd (none_is_some _ (sym h))
+none_open (Some o) set h = absurd (none-some _ (sym h))
 
 pub kept_first : (capacity : ℕ) → IsKept capacity (opening_row capacity) 2 0 [] None 0
 kept_first capacity = record {
@@ -250,7 +251,7 @@ tested law capacity old change plan may =
       (opening old change plan, (plan, may, refl)),
       λ new (other, (shut', (v, made', stands', plans'), encodes'), is).
           ap (λ (k : KeeperView). length (left_of k.pending)) is ∙ law capacity old.cells v w change other plan stands' stands
-          (ok_inj v.tree w.tree (sym made' ∙ made)) plans' plans,
+          (same_Ok v.tree w.tree (sym made' ∙ made)) plans' plans,
     )
 
 -- a cell is set

@@ -8,7 +8,7 @@ use Rattle.std.proofs.lemmas.List.Elements.{All-append}
 use Rattle.std.proofs.lemmas.List.Quantifiers.{all_pairs_push}
 use Rattle.row_rule.specs.declared.cell.Cell.{Cell}
 use Rattle.row_rule.specs.Row.{write}
-use Rattle.row_rule.proofs.Writes.{write_append}
+use Rattle.row_rule.specs.laws.Writes.{write_append}
 use Rattle.row_plan.specs.inner.Rows.{Drafts}
 
 -- a word that is set stays in the row: no plan makes a change there

@@ -10,8 +10,8 @@ use Rattle.directory_tree.specs.Walk.{Spot}
 use Rattle.directory_tree.specs.Walk.Spot.{Root, Held}
 use Rattle.directory_tree.specs.Spots.{shape_of, node_at, kind_at, child_of}
 use Rattle.directory_tree.specs.Apply.{entry, with_entry, dropped, moved, placed, longest_link_text}
-use Rattle.directory_tree.proofs.Basics.{some_inj, none_is_some}
-use Rattle.directory_tree.proofs.Found.{empty_none, find-without_same, find-without_other, without-none, Apart}
+use Rattle.std.proofs.lemmas.Option.{none-some, same_Some}
+use Rattle.directory_tree.specs.laws.Found.{empty_none, find-without_same, find-without_other, without-none, Apart}
 use Rattle.path_lookup.specs.World.{World}
 use Rattle.tree_row.specs.Slots.{Slot, slot_at, kind_from, entry_at, IsUsed, IsFree, IsDirectorySlot}
 use Rattle.tree_row.specs.Rows.{EncodesSlots}
@@ -94,7 +94,7 @@ module _ (capacity : ℕ) (row : List ℕ) (w : World) (enc : EncodesWorld capac
       let k : (f r).kind ≡ 1 = ap (λ (z : ℕ). (f z).kind) (sym up) ∙ (enc.tree.slots.in_directory x h).kind in
       let shape : shape_of (kind_at (w.named r)) ≡ kind.Directory = ap (λ (s : Spot). shape_of (kind_at s)) (held r used)
       ∙ ap (λ (z : ℕ). shape_of (kind_from z (f r).text)) k in
-      none_is_some (entry_at f x) (sym (empty_none t.entries (node_at (w.named r)) (f x).component (empty shape))
+      none-some (entry_at f x) (sym (empty_none t.entries (node_at (w.named r)) (f x).component (empty shape))
       ∙ ap (λ (z : ℕ). find t.entries z (f x).component) (node_is r ∙ ap (λ (z : ℕ). (f z).node) (sym up)) ∙ enc.tree.slots.there x h)
 
   pub enacts_new : (made : NodeKind) (node next s p : ℕ) (c after : List ℕ) → p < slots → find t.entries (node_at (w.named p)) c ≡ None →
@@ -167,7 +167,7 @@ module _ (capacity : ℕ) (row : List ℕ) (w : World) (enc : EncodesWorld capac
 
     -- the directory of the new place is not the one that is removed, which has no entry
     apart_p : p ≢ r
-    apart_p e = none_is_some (entry_at f r)
+    apart_p e = none-some (entry_at f r)
         (sym (empty_none t.entries into name (subst (λ (z : ℕ). is_empty t.entries (node_at (w.named z)) ≡ true) (sym e)
         (empty (subst (λ (z : ℕ). shape_of (kind_at (w.named z)) ≡ kind.Directory) e directory)))) ∙ found_r)
 
@@ -195,7 +195,7 @@ module _ (capacity : ℕ) (row : List ℕ) (w : World) (enc : EncodesWorld capac
     -- the two entries are at different places
     places_apart : Apart into name from c
     places_apart a b =
-        let e : entry_at f s ≡ entry_at f r = some_inj (entry_at f s) (entry_at f r)
+        let e : entry_at f s ≡ entry_at f r = same_Some (entry_at f s) (entry_at f r)
         (sym found_s ∙ (λ i. find t.entries (a i) (b i)) ∙ found_r) in
         other (node_is r ∙ ap (λ (z : Entry). z.node) (sym e) ∙ sym (node_is s))
 

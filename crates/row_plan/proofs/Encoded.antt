@@ -14,7 +14,7 @@ use Rattle.row_index.specs.Places.{index_length}
 use Rattle.row_index.specs.Hashes.{home}
 use Rattle.row_index.proofs.Upkeep.{reused}
 use Rattle.row_index.specs.Edits.{index_at}
-use Rattle.directory_tree.proofs.Found.{found_at}
+use Rattle.directory_tree.specs.laws.Found.{found_at}
 use Rattle.tree_row.specs.Slots.{Slot, slot_at, IsUsed}
 use Rattle.tree_row.specs.Rows.{Encodes, index_base, home_of, homes_in}
 use Rattle.tree_row.specs.Worlds.{EncodesWorld}

@@ -12,8 +12,8 @@ use Rattle.row_index.proofs.Upkeep.{reworded, reused}
 use Rattle.row_index.proofs.Edited.{inserts, removes, inserts_once, removes_once}
 use Rattle.row_index.proofs.Cells.{inserts_before, removes_before, inserts_long, removes_long}
 use Rattle.row_index.proofs.Vacancies.{not_full}
-use Rattle.row_index.proofs.Sizes.{index_some, index_enough}
-use Rattle.row_index.proofs.Homes.{home_within}
+use Rattle.row_index.specs.laws.Sizes.{index_some, index_enough}
+use Rattle.row_index.specs.laws.Homes.{home_within}
 use Rattle.tree_row.specs.Slots.{Slot, slot_at, entry_at, IsUsed, IsDirectorySlot, IsInRange, IsRootSlot, packed}
 use Rattle.tree_row.specs.Rows.{EncodesSlots, Encodes, IsIndexed, home_of, homes_in, index_base}
 use Rattle.row_plan.specs.Leaves.{with_words, without_slot, without_any, with_place, AddsToIndex, RemovesFromIndex, RemovesAny}

@@ -4,9 +4,9 @@ use Rattle.std.specs.Prelude.{if◌then◌else◌}
 use Rattle.std.proofs.lemmas.List.{append_cancel_left}
 use Rattle.directory_tree.specs.Tree.{Entry, find}
 use Rattle.directory_tree.specs.Apply.{entry, without, placed}
-use Rattle.directory_tree.proofs.Basics.{none_is_some}
-use Rattle.directory_tree.proofs.Found.{find-append_old, find-append_new, find-without_same, find-without_other, find-placed_new}
-use Rattle.directory_tree.proofs.Found.{find-placed_old, find-placed_else, is_at-same, Apart, put_at}
+use Rattle.std.proofs.lemmas.Option.{none-some}
+use Rattle.directory_tree.specs.laws.Found.{find-append_old, find-append_new, find-without_same, find-without_other, find-placed_new}
+use Rattle.directory_tree.specs.laws.Found.{find-placed_old, find-placed_else, is_at-same, Apart, put_at}
 use Rattle.row_plan.proofs.Removals.{keys}
 
 abbrev pub Lost : List Entry → List Entry → ℕ → List ℕ → Type 0
@@ -19,11 +19,11 @@ abbrev pub Keeps : List Entry → List Entry → Type 0
 Keeps es after = (d : ℕ) (c : List ℕ) (e : Entry) → find es d c ≡ Some e → find after d c ≡ Some e
 
 pub lost_is_not_kept : (es after : List Entry) (d : ℕ) (c : List ℕ) → Lost es after d c → Keeps es after → ⊥
-lost_is_not_kept es after d c lost keeps = none_is_some lost.0 (sym lost.2 ∙ keeps d c lost.0 lost.1)
+lost_is_not_kept es after d c lost keeps = none-some lost.0 (sym lost.2 ∙ keeps d c lost.0 lost.1)
 
 -- what is found as before isn't lost
 as_before : (es after : List Entry) (d : ℕ) (c : List ℕ) → Lost es after d c → find after d c ≡ find es d c → ⊥
-as_before es after d c lost same = none_is_some lost.0 (sym lost.2 ∙ same ∙ lost.1)
+as_before es after d c lost same = none-some lost.0 (sym lost.2 ∙ same ∙ lost.1)
 
 -- a new entry
 pub grown_keeps : (es : List Entry) (x : Entry) → Keeps es (es ++ x ∷ [])
@@ -31,7 +31,7 @@ grown_keeps es x d c e is = find-append_old es x d c e is
 
 pub grown_is_more : (es : List Entry) (x : Entry) → find es x.of x.component ≡ None → es ++ x ∷ [] ≡ es → ⊥
 grown_is_more es x free same =
-    none_is_some x (sym free ∙ ap (λ (z : List Entry). find z x.of x.component) (sym same) ∙ find-append_new es x x.of x.component free
+    none-some x (sym free ∙ ap (λ (z : List Entry). find z x.of x.component) (sym same) ∙ find-append_new es x x.of x.component free
     ∙ ap (λ (b : Bool). if b then Some x else None) (is_at-same x.of x.component x refl refl))
 
 -- the new entries that leave the same are the same
@@ -72,7 +72,7 @@ module _ (es : List Entry) (d : ℕ) (c : List ℕ) (into : ℕ) (name : List �
 
   pub moved_only : LosesOnly es after d c
   moved_only d' c' lost = keys d c d' c' (λ same. same) (λ one. keys into name d' c'
-      (λ same. absurd (none_is_some new (sym lost.2 ∙ (λ i. find after (same.0 i) (same.1 i)) ∙ moved_there)))
+      (λ same. absurd (none-some new (sym lost.2 ∙ (λ i. find after (same.0 i) (same.1 i)) ∙ moved_there)))
       (λ two. absurd (as_before es after d' c' lost (moved_else d' c' one two))))
 
   -- it isn't what another act leaves that loses the same key, except by a move to the same key

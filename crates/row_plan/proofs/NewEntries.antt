@@ -9,8 +9,8 @@ use Rattle.directory_tree.specs.declared.node.NodeKind.{NodeKind}
 use Rattle.directory_tree.specs.declared.node.NodeKind.TheVariants.{Directory, File, Link}
 use Rattle.directory_tree.specs.Tree.{Tree, Entry, find, is_at}
 use Rattle.directory_tree.specs.Apply.{entry, with_entry, longest_link_text}
-use Rattle.directory_tree.proofs.Basics.{some_inj, none_is_some}
-use Rattle.directory_tree.proofs.Found.{find-append_old, find-append_new, is_at-same}
+use Rattle.std.proofs.lemmas.Option.{none-some, same_Some}
+use Rattle.directory_tree.specs.laws.Found.{find-append_old, find-append_new, is_at-same}
 use Rattle.tree_row.specs.Slots.{Slot, kind_from, entry_in, entry_at, IsUsed, IsDirectorySlot, IsInRange, IsRootSlot}
 use Rattle.tree_row.specs.Rows.{EncodesSlots}
 use Rattle.row_plan.specs.Leaves.{code_of, text_in, new_slot}
@@ -93,7 +93,7 @@ module _ (n : ℕ) (f g : ℕ → Slot) (t : Tree) (kind : NodeKind) (node next 
   old_is_not_new x h e =
       let was : entry_at f x ≡ new = sym (old_entry x h) ∙ e in
       let found : find t.entries d c ≡ Some new = subst (λ (z : Entry). find t.entries z.of z.component ≡ Some z) was (enc.there x h) in
-      absurd (none_is_some new (sym free ∙ found))
+      absurd (none-some new (sym free ∙ found))
 
   used_new : IsUsed n g s
   used_new = record { past_root = past; within = within; used = λ e. code_used kind (sym (ap (λ (z : Slot). z.kind) here) ∙ e) }
@@ -102,13 +102,13 @@ module _ (n : ℕ) (f g : ℕ → Slot) (t : Tree) (kind : NodeKind) (node next 
   held_after d' c' e h =
       elim (find t.entries d' c') as (λ (o : Option Entry). find t.entries d' c' ≡ o → (x : ℕ) × IsUsed n g x × (entry_at g x ≡ e)) [
         | Some z ↦ λ is.
-            let same_z : z ≡ e = some_inj z e (sym (find-append_old t.entries new d' c' z is) ∙ h) in
+            let same_z : z ≡ e = same_Some z e (sym (find-append_old t.entries new d' c' z is) ∙ h) in
             let (x, used, at_x) = enc.held d' c' z is in
             (x, still_used x used, old_entry x used ∙ at_x ∙ same_z)
         | None ↦ λ is. elim (is_at d' c' new) as (λ (b : Bool). (if b then Some new else None) ≡ Some e → (x : ℕ) × IsUsed n g x
             × (entry_at g x ≡ e)) [
-              | true ↦ λ q. (s, used_new, new_entry ∙ some_inj new e q)
-              | false ↦ λ q. absurd (none_is_some e q)
+              | true ↦ λ q. (s, used_new, new_entry ∙ same_Some new e q)
+              | false ↦ λ q. absurd (none-some e q)
             ] (sym (find-append_new t.entries new d' c' is) ∙ h)
       ] refl
 

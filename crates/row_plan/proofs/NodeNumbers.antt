@@ -10,7 +10,7 @@ use Rattle.directory_tree.specs.Tree.{Tree, Entry, find, is_directory, is_empty}
 use Rattle.directory_tree.specs.Apply.{apply, at_one, make, make_at, link, link_from, link_to, unlink, unlink_at, rmdir, rmdir_at, rename}
 use Rattle.directory_tree.specs.Apply.{rename_from, rename_onto, onto_kind, goes_below, moved, with_entry, entry, dropped, is_file}
 use Rattle.directory_tree.specs.Apply.{text_of, directory_target, other_target}
-use Rattle.directory_tree.proofs.Basics.{ok_inj, err_is_ok}
+use Rattle.names.specs.laws.Results.{err-ok, same_Ok}
 use Rattle.directory_tree.proofs.Changes.{and_then_inv}
 use Rattle.directory_tree.proofs.Actions.{acts_one, acts_two}
 use Rattle.directory_tree.proofs.Accepted.{gives_way}
@@ -22,11 +22,11 @@ next_same t u h = ap (λ (z : Tree). z.next) (sym h)
 made_next : (t u : Tree) (room : Bool) (kind : NodeKind) (d : ℕ) (c : List ℕ) → make t room kind d c ≡ Ok u → u.next ≡ t.next + 1
 made_next t u room kind d c h = elim (find t.entries d c) as (λ (o : Option Entry). make_at t room kind d c o ≡ Ok u →
     u.next ≡ t.next + 1) [
-      | Some e ↦ λ q. absurd (err_is_ok EEXIST u q)
+      | Some e ↦ λ q. absurd (err-ok EEXIST u q)
       | None ↦ λ q. elim room as (λ (b : Bool). (if b then Ok (with_entry t (entry d c t.next kind) (t.next + 1)) else Err ENOSPC) ≡ Ok u →
           u.next ≡ t.next + 1) [
-            | true ↦ λ r. next_same (with_entry t (entry d c t.next kind) (t.next + 1)) u (ok_inj _ u r)
-            | false ↦ λ r. absurd (err_is_ok ENOSPC u r)
+            | true ↦ λ r. next_same (with_entry t (entry d c t.next kind) (t.next + 1)) u (same_Ok _ u r)
+            | false ↦ λ r. absurd (err-ok ENOSPC u r)
           ] q
     ] h
 
@@ -34,18 +34,18 @@ linked_next : (t u : Tree) (room : Bool) (d : ℕ) (c : List ℕ) (into : ℕ) (
     u.next ≡ t.next
 linked_next t u room d c into name h = elim (find t.entries d c) as (λ (o : Option Entry). link_from t room into name o ≡ Ok u →
     u.next ≡ t.next) [
-      | None ↦ λ q. absurd (err_is_ok ENOENT u q)
+      | None ↦ λ q. absurd (err-ok ENOENT u q)
       | Some old ↦ λ q. elim (is_file old.kind) as
           (λ (b : Bool). (if b then link_to t room old into name (find t.entries into name) else Err EPERM) ≡ Ok u → u.next ≡ t.next) [
-            | false ↦ λ r. absurd (err_is_ok EPERM u r)
+            | false ↦ λ r. absurd (err-ok EPERM u r)
             | true ↦ λ r. elim (find t.entries into name) as (λ (o : Option Entry). link_to t room old into name o ≡ Ok u →
                 u.next ≡ t.next) [
-                  | Some e ↦ λ s. absurd (err_is_ok EEXIST u s)
+                  | Some e ↦ λ s. absurd (err-ok EEXIST u s)
                   | None ↦ λ s. elim room as
                       (λ (b : Bool). (if b then Ok (with_entry t (entry into name old.node old.kind) t.next) else Err ENOSPC)
                       ≡ Ok u → u.next ≡ t.next) [
-                        | true ↦ λ x. next_same (with_entry t (entry into name old.node old.kind) t.next) u (ok_inj _ u x)
-                        | false ↦ λ x. absurd (err_is_ok ENOSPC u x)
+                        | true ↦ λ x. next_same (with_entry t (entry into name old.node old.kind) t.next) u (same_Ok _ u x)
+                        | false ↦ λ x. absurd (err-ok ENOSPC u x)
                       ] s
                 ] r
           ] q
@@ -53,24 +53,24 @@ linked_next t u room d c into name h = elim (find t.entries d c) as (λ (o : Opt
 
 unlinked_next : (t u : Tree) (d : ℕ) (c : List ℕ) → unlink t d c ≡ Ok u → u.next ≡ t.next
 unlinked_next t u d c h = elim (find t.entries d c) as (λ (o : Option Entry). unlink_at t d c o ≡ Ok u → u.next ≡ t.next) [
-  | None ↦ λ q. absurd (err_is_ok ENOENT u q)
+  | None ↦ λ q. absurd (err-ok ENOENT u q)
   | Some e ↦ λ q. elim (is_directory e.kind) as (λ (b : Bool). (if b then Err EISDIR else Ok (dropped t d c)) ≡ Ok u → u.next ≡ t.next) [
-    | true ↦ λ r. absurd (err_is_ok EISDIR u r)
-    | false ↦ λ r. next_same (dropped t d c) u (ok_inj _ u r)
+    | true ↦ λ r. absurd (err-ok EISDIR u r)
+    | false ↦ λ r. next_same (dropped t d c) u (same_Ok _ u r)
   ] q
 ] h
 
 removed_next : (t u : Tree) (d : ℕ) (c : List ℕ) → rmdir t d c ≡ Ok u → u.next ≡ t.next
 removed_next t u d c h = elim (find t.entries d c) as (λ (o : Option Entry). rmdir_at t d c o ≡ Ok u → u.next ≡ t.next) [
-  | None ↦ λ q. absurd (err_is_ok ENOENT u q)
+  | None ↦ λ q. absurd (err-ok ENOENT u q)
   | Some e ↦ λ q. elim (is_directory e.kind) as
       (λ (b : Bool). (if b then (if is_empty t.entries e.node then Ok (dropped t d c) else Err ENOTEMPTY) else Err ENOTDIR) ≡ Ok u →
       u.next ≡ t.next) [
-        | false ↦ λ r. absurd (err_is_ok ENOTDIR u r)
+        | false ↦ λ r. absurd (err-ok ENOTDIR u r)
         | true ↦ λ r. elim (is_empty t.entries e.node) as (λ (b : Bool). (if b then Ok (dropped t d c) else Err ENOTEMPTY) ≡ Ok u →
             u.next ≡ t.next) [
-              | true ↦ λ s. next_same (dropped t d c) u (ok_inj _ u s)
-              | false ↦ λ s. absurd (err_is_ok ENOTEMPTY u s)
+              | true ↦ λ s. next_same (dropped t d c) u (same_Ok _ u s)
+              | false ↦ λ s. absurd (err-ok ENOTEMPTY u s)
             ] r
       ] q
 ] h
@@ -78,23 +78,23 @@ removed_next t u d c h = elim (find t.entries d c) as (λ (o : Option Entry). rm
 renamed_next : (t u : Tree) (d : ℕ) (c : List ℕ) (into : ℕ) (name : List ℕ) → rename t d c into name ≡ Ok u → u.next ≡ t.next
 renamed_next t u d c into name h = elim (find t.entries d c) as (λ (o : Option Entry). rename_from t d c into name o ≡ Ok u →
     u.next ≡ t.next) [
-      | None ↦ λ q. absurd (err_is_ok ENOENT u q)
+      | None ↦ λ q. absurd (err-ok ENOENT u q)
       | Some old ↦ λ q. elim (find t.entries into name) as (λ (o : Option Entry). rename_onto t old into (Ok (moved t d c into name)) o
           ≡ Ok u → u.next ≡ t.next) [
             | None ↦ λ r. elim (goes_below t.entries old into) as (λ (b : Bool). (if b then Err EINVAL else Ok (moved t d c into name))
                 ≡ Ok u →
                 u.next ≡ t.next) [
-                  | true ↦ λ s. absurd (err_is_ok EINVAL u s)
-                  | false ↦ λ s. next_same (moved t d c into name) u (ok_inj _ u s)
+                  | true ↦ λ s. absurd (err-ok EINVAL u s)
+                  | false ↦ λ s. next_same (moved t d c into name) u (same_Ok _ u s)
                 ] r
             | Some new ↦ λ r. elim (new.node == old.node) as
                 (λ (b : Bool). (if b then Ok t else (if goes_below t.entries old into then Err EINVAL else onto_kind t.entries old new
                 (Ok (moved t d c into name)))) ≡ Ok u → u.next ≡ t.next) [
-                  | true ↦ λ s. next_same t u (ok_inj t u s)
+                  | true ↦ λ s. next_same t u (same_Ok t u s)
                   | false ↦ λ s. elim (goes_below t.entries old into) as
                       (λ (b : Bool). (if b then Err EINVAL else onto_kind t.entries old new (Ok (moved t d c into name))) ≡ Ok u →
                       u.next ≡ t.next) [
-                        | true ↦ λ x. absurd (err_is_ok EINVAL u x)
+                        | true ↦ λ x. absurd (err-ok EINVAL u x)
                         | false ↦ λ x. next_same (moved t d c into name) u (gives_way (is_directory old.kind) (is_directory new.kind)
                             (is_empty t.entries new.node) (moved t d c into name) u x).0
                       ] s

@@ -5,8 +5,8 @@ use native.Mathlib.Decide.{ℕ_discrete}
 use Rattle.names.specs.declared.limits.TheConstants.{LONGEST_COMPONENT}
 use Rattle.directory_tree.specs.Tree.{Tree, Entry, find}
 use Rattle.directory_tree.specs.Apply.{entry, placed}
-use Rattle.directory_tree.proofs.Basics.{some_inj, none_is_some}
-use Rattle.directory_tree.proofs.Found.{find-placed_new, find-placed_old, find-placed_else, found_at, Apart, put_at}
+use Rattle.std.proofs.lemmas.Option.{none-some, same_Some}
+use Rattle.directory_tree.specs.laws.Found.{find-placed_new, find-placed_old, find-placed_else, found_at, Apart, put_at}
 use Rattle.tree_row.specs.Slots.{Slot, kind_from, entry_in, entry_at, IsUsed, IsDirectorySlot, IsInRange, IsRootSlot}
 use Rattle.tree_row.specs.Rows.{EncodesSlots}
 use Rattle.row_plan.proofs.NewEntries.{same_entry}
@@ -24,7 +24,7 @@ module _ (n : ℕ) (f g : ℕ → Slot) (t : Tree) (d : ℕ) (c : List ℕ) (int
   new = entry into name (entry_at f s).node (entry_at f s).kind
 
   keys_apart : Apart d c into name
-  keys_apart x y = absurd (none_is_some _ (sym free ∙ (λ i. find t.entries (x i) (y i)) ∙ is))
+  keys_apart x y = absurd (none-some _ (sym free ∙ (λ i. find t.entries (x i) (y i)) ∙ is))
 
   node_same : (x : ℕ) → IsDirectorySlot n f x → (g x).node ≡ (f x).node
   node_same x h = dite (ℕ_discrete x s) (λ e. ap (λ (z : ℕ). (g z).node) e ∙ ap (λ (z : Slot). z.node) here
@@ -59,7 +59,7 @@ module _ (n : ℕ) (f g : ℕ → Slot) (t : Tree) (d : ℕ) (c : List ℕ) (int
   old_apart x h other a b = other (slot_of_key n f t x s d c enc h used is a b)
 
   new_apart : (x : ℕ) → IsUsed n f x → Apart into name (entry_at f x).of (entry_at f x).component
-  new_apart x h a b = absurd (none_is_some _ (sym free ∙ found_there n f t x into name enc h a b))
+  new_apart x h a b = absurd (none-some _ (sym free ∙ found_there n f t x into name enc h a b))
 
   there_after : (x : ℕ) → IsUsed n g x → find after (entry_at g x).of (entry_at g x).component ≡ Some (entry_at g x)
   there_after x h = dite (ℕ_discrete x s)
@@ -69,10 +69,10 @@ module _ (n : ℕ) (f g : ℕ → Slot) (t : Tree) (d : ℕ) (c : List ℕ) (int
 
   held_after : (d' : ℕ) (c' : List ℕ) (e : Entry) → find after d' c' ≡ Some e → (x : ℕ) × IsUsed n g x × (entry_at g x ≡ e)
   held_after d' c' e h = keys d c d' c'
-      (λ same. absurd (none_is_some e (sym (find-placed_old d c into name keys_apart t.entries)
+      (λ same. absurd (none-some e (sym (find-placed_old d c into name keys_apart t.entries)
       ∙ (λ i. find after (sym same.0 i) (sym same.1 i)) ∙ h)))
       (λ apart. keys into name d' c'
-      (λ same. (s, stays_used s used, new_entry ∙ some_inj new e (sym found_new ∙ (λ i. find after (sym same.0 i) (sym same.1 i)) ∙ h)))
+      (λ same. (s, stays_used s used, new_entry ∙ same_Some new e (sym found_new ∙ (λ i. find after (sym same.0 i) (sym same.1 i)) ∙ h)))
       (λ new_key.
       let was : find t.entries d' c' ≡ Some e = sym (find-placed_else d c into name keys_apart t.entries d' c' apart new_key) ∙ h in
       let (x, o, at_x) = enc.held d' c' e was in

@@ -1,12 +1,13 @@
 -- An entry is removed: its slot becomes free.
-use Rattle.std.proofs.Common.{◌≡◌, ℕ, ◌<◌, ◌≢◌, Bool, true, false, List, Some, sym, refl, ap, ◌∙◌, subst, arith}
+use Rattle.std.proofs.Common.{◌≡◌, ℕ, ◌<◌, ◌≢◌, Bool, true, false, List, Some, sym, refl, ap, ◌∙◌, subst, arith, true≢false}
 use Rattle.std.specs.Prelude.{bytes_eq}
 use mathlib.Core.Logic.{dite}
 use native.Mathlib.Decide.{ℕ_discrete}
 use Rattle.directory_tree.specs.Tree.{Tree, Entry, find}
 use Rattle.directory_tree.specs.Apply.{without, dropped}
-use Rattle.directory_tree.proofs.Basics.{some_inj, none_is_some, bytes_true, bytes_same, true_is_false}
-use Rattle.directory_tree.proofs.Found.{find-without_same, find-without_other, found_at, Apart}
+use Rattle.std.proofs.lemmas.Option.{none-some, same_Some}
+use Rattle.std.proofs.lemmas.Slice.Eq.{bytes_eq-Decides}
+use Rattle.directory_tree.specs.laws.Found.{find-without_same, find-without_other, found_at, Apart}
 use Rattle.tree_row.specs.Slots.{Slot, entry_at, IsUsed, IsDirectorySlot, IsInRange, IsRootSlot}
 use Rattle.tree_row.specs.Rows.{EncodesSlots}
 use Rattle.row_plan.proofs.NewEntries.{same_entry}
@@ -15,8 +16,8 @@ use Rattle.row_plan.proofs.NewEntries.{same_entry}
 pub keys : {A : Type 0} (d : ℕ) (c : List ℕ) (d' : ℕ) (c' : List ℕ) → ((d' ≡ d) × (c' ≡ c) → A) → (Apart d c d' c' → A) → A
 keys {A} d c d' c' yes_case no_case = dite (ℕ_discrete d' d)
     (λ x. elim (bytes_eq c' c) as (λ (b : Bool). bytes_eq c' c ≡ b → A) [
-      | true ↦ λ y. yes_case (x, bytes_true c' c y)
-      | false ↦ λ y. no_case (λ p q. absurd (true_is_false (sym (bytes_same c' c q) ∙ y)))
+      | true ↦ λ y. yes_case (x, (bytes_eq-Decides c' c).0 y)
+      | false ↦ λ y. no_case (λ p q. absurd (true≢false (sym ((bytes_eq-Decides c' c).1 q) ∙ y)))
     ] refl)
     (λ x. no_case (λ p q. x p))
 
@@ -28,7 +29,7 @@ found_there n f t x d c enc h p q = (λ i. find t.entries (sym p i) (sym q i)) �
 -- the slot at a key
 pub slot_of_key : (n : ℕ) (f : ℕ → Slot) (t : Tree) (x y d : ℕ) (c : List ℕ) → EncodesSlots n f t → IsUsed n f x → IsUsed n f y →
     find t.entries d c ≡ Some (entry_at f y) → (entry_at f x).of ≡ d → (entry_at f x).component ≡ c → x ≡ y
-slot_of_key n f t x y d c enc hx hy is p q = enc.once x y hx hy (some_inj _ _ (sym (found_there n f t x d c enc hx p q) ∙ is))
+slot_of_key n f t x y d c enc hx hy is p q = enc.once x y hx hy (same_Some _ _ (sym (found_there n f t x d c enc hx p q) ∙ is))
 
 module _ (n : ℕ) (f g : ℕ → Slot) (t : Tree) (d : ℕ) (c : List ℕ) (r : ℕ) (enc : EncodesSlots n f t) (used : IsUsed n f r)
     (is : find t.entries d c ≡ Some (entry_at f r))
@@ -73,7 +74,7 @@ module _ (n : ℕ) (f g : ℕ → Slot) (t : Tree) (d : ℕ) (c : List ℕ) (r :
 
   held_after : (d' : ℕ) (c' : List ℕ) (e : Entry) → find after d' c' ≡ Some e → (x : ℕ) × IsUsed n g x × (entry_at g x ≡ e)
   held_after d' c' e h = keys d c d' c'
-      (λ same. absurd (none_is_some e (sym (find-without_same t.entries d c) ∙ (λ i. find after (sym same.0 i) (sym same.1 i)) ∙ h)))
+      (λ same. absurd (none-some e (sym (find-without_same t.entries d c) ∙ (λ i. find after (sym same.0 i) (sym same.1 i)) ∙ h)))
       (λ apart.
       let (x, o, at_x) = enc.held d' c' e (sym (find-without_other t.entries d c d' c' apart) ∙ h) in
       let key = found_at t.entries d' c' e (sym (find-without_other t.entries d c d' c' apart) ∙ h) in

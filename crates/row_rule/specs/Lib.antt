@@ -1,3 +1,4 @@
 pub mod Row
 pub mod Steps
 pub mod Counts
+pub mod laws

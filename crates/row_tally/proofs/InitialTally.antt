@@ -10,7 +10,7 @@ use Rattle.std.proofs.lemmas.List.Elements.{All-replicate}
 use Rattle.std.proofs.lemmas.List.Sums.{sum_by-le}
 use Rattle.tree_row.specs.Slots.{Slot, slot_at}
 use Rattle.tree_row.specs.OpeningRow.{opening_row}
-use Rattle.tree_row.proofs.OpeningRow.{opens}
+use Rattle.tree_row.specs.laws.OpeningRow.{opens}
 use Rattle.row_tally.specs.declared.note.Note.{Note}
 use Rattle.row_tally.specs.Bits.{bit_in}
 use Rattle.row_tally.specs.Notes.{note_at, entry_in, entries_in, AreCounted}

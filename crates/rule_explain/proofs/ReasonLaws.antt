@@ -12,7 +12,7 @@ use Rattle.rule_globs.specs.Glob.{Takes}
 use Rattle.rule_globs.specs.PlainVerdict.{takes}
 use Rattle.rule_globs.specs.Rules.{RuleValue, pattern, holds}
 use Rattle.rule_globs.specs.Verdict.{Hits, IsLeast, IsRuleAt}
-use Rattle.rule_globs.proofs.Cuts.{by_cuts}
+use Rattle.rule_globs.specs.laws.Cuts.{by_cuts}
 use Rattle.names.specs.declared.kind.RuleKind.{RuleKind}
 use Rattle.names.specs.declared.kind.RuleKind.TheVariants.{Allow, Deny}
 use Rattle.rule_explain.specs.declared.reason.Reason.{Reason}

@@ -3,14 +3,9 @@ pub mod Blocks
 pub mod ByteBits
 pub mod Sweeps
 pub mod WholeSweeps
-pub mod MeaningLaws
 pub mod Weight
 pub mod PassLaws
 pub mod Fronts
 pub mod StepLaws
 pub mod FollowLaws
-pub mod Cuts
 pub mod OneVerdict
-pub mod PlainLaws
-pub mod TokenItems
-pub mod TokenLaws

@@ -9,7 +9,7 @@ use Rattle.rule_globs.specs.Meaning.{meaning, meaning_of, alternatives_meaning, 
 use Rattle.rule_globs.specs.declared.items.Class.{Class}
 use Rattle.rule_globs.specs.declared.items.Item.{Item}
 use Rattle.rule_globs.specs.declared.items.Item.TheVariants as v
-use Rattle.rule_globs.proofs.MeaningLaws.{meaning-Byte, meaning-AnyByte, meaning-Class, meaning-Group}
+use Rattle.rule_globs.specs.laws.MeaningLaws.{meaning-Byte, meaning-AnyByte, meaning-Class, meaning-Group}
 use Rattle.rule_globs.proofs.Blocks.{or_together}
 use Rattle.rule_globs.proofs.Weight.{weight}
 use Rattle.rule_globs.proofs.Sweeps.{sweep-place}

@@ -9,3 +9,4 @@ pub mod Rules
 pub mod Verdict
 pub mod PlainVerdict
 pub mod inner
+pub mod laws

@@ -15,7 +15,7 @@ use Rattle.rule_influence.specs.declared.candidates.Case.{Case}
 use Rattle.rule_influence.specs.declared.substitutes.IdleCase.{IdleCase}
 use Rattle.rule_influence.specs.inner.Candidates.{IsAtName, IsAtNameFor, IsCandidate, IsCandidateFor, IsCaseOf, candidate}
 use Rattle.rule_influence.specs.inner.Lists.{AreAdded, AreNotedAt, list_at, numbers_of}
-use Rattle.rule_influence.proofs.HitLaws.{at_place}
+use Rattle.rule_influence.specs.laws.HitLaws.{at_place}
 
 module _ (rules : List RuleValue) (idle : IdleCase) (records : Records) where
   module _ (case : Case) (is : IsCaseOf rules idle case) where

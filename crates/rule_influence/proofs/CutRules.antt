@@ -9,14 +9,14 @@ use Rattle.names.specs.declared.permissions.Perms.{Perms}
 use Rattle.names.specs.declared.verdict.Verdict.TheVariants.{Allowed}
 use Rattle.names.specs.Paths.{IsName}
 use Rattle.names.specs.Permissions.{has}
-use Rattle.names.proofs.PermsLaws.{has-only, only_one}
+use Rattle.names.specs.laws.PermissionSets.{has-only, only_one}
 use Rattle.names.specs.declared.kind.RuleKind.{RuleKind}
 use Rattle.names.specs.declared.kind.RuleKind.TheVariants.{Allow, Deny}
 use Rattle.rule_globs.specs.Rules.{RuleValue}
 use Rattle.rule_globs.specs.Verdict.{Hits, IsAllowed, IsRuleAt, IsVerdict}
-use Rattle.rule_globs.proofs.PlainLaws.{allowed_by_hits}
+use Rattle.rule_globs.specs.laws.PlainLaws.{allowed_by_hits}
 use Rattle.rule_influence.specs.Influence.{HitsWithout, IsAllowedWithout, IsIdle}
-use Rattle.rule_influence.proofs.HitLaws.{absent_idle}
+use Rattle.rule_influence.specs.laws.HitLaws.{absent_idle}
 
 module _ (rules : List RuleValue) (k : ℕ) (ge : 1 ≤ k) where
   abbrev cut : List RuleValue

@@ -9,7 +9,7 @@ use Rattle.names.specs.declared.permissions.Perms.{Perms}
 use Rattle.names.specs.declared.record.Record.{Record}
 use Rattle.names.specs.Least.{hits_of}
 use Rattle.names.specs.Permissions.{all_permissions, has, index, letter, permission_count, with_permission}
-use Rattle.names.proofs.PermsLaws.{has-set_of, same_letter}
+use Rattle.names.specs.laws.PermissionSets.{has-set_of, same_letter}
 use Rattle.rule_influence.specs.inner.Deciders.{AreNoted, IsAdded, IsNoted, decider, no_perms}
 
 -- what the set with one more permission has

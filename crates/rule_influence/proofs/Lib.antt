@@ -1,4 +1,3 @@
-pub mod HitLaws
 pub mod CutRules
 pub mod LoneHits
 pub mod ReversedSets
@@ -9,4 +8,3 @@ pub mod CandidateLists
 pub mod StandingRules
 pub mod StandInLists
 pub mod CaseLists
-pub mod IdleStandIns

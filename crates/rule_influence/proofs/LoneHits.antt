@@ -9,14 +9,14 @@ use Rattle.names.specs.declared.kind.RuleKind.TheVariants.{Allow, Deny}
 use Rattle.names.specs.declared.record.LeastHits.{LeastHits}
 use Rattle.names.specs.declared.record.Record.{Record}
 use Rattle.names.specs.Least.{IsLeastOrNone, hits_of}
-use Rattle.names.proofs.LeastNumbers.{least_there, least_some, none_least}
+use Rattle.names.specs.laws.LeastNumbers.{least_there, least_some, none_least}
 use Rattle.rule_globs.specs.Rules.{RuleValue}
 use Rattle.rule_globs.specs.Verdict.{Hits, IsAllowed}
-use Rattle.rule_globs.proofs.PlainLaws.{allowed_by_hits}
+use Rattle.rule_globs.specs.laws.PlainLaws.{allowed_by_hits}
 use Rattle.glob_automaton.specs.Least.{IsLeastRecord}
 use Rattle.rule_influence.specs.Influence.{DecidesFor, IsAllowedWithout, IsLoneHit}
 use Rattle.rule_influence.specs.inner.Deciders.{decider, lone_number}
-use Rattle.rule_influence.proofs.HitLaws.{hits_reversed, lone_decides}
+use Rattle.rule_influence.specs.laws.HitLaws.{hits_reversed, lone_decides}
 
 module _ (rules : List RuleValue) (name : List ℕ) (p : Permission) where
   abbrev count : ℕ

@@ -11,7 +11,7 @@ use Rattle.profile_questions.specs.declared.fault.QuestionFault.TheVariants as s
 use Rattle.profile_questions.specs.Faults.{IsQuestionFault}
 use Rattle.glob_automaton.specs.Automata.{IsCompileFault}
 use Rattle.glob_automaton.specs.Sets.{IsLive, NoneLive, SameSet}
-use Rattle.rule_influence.proofs.HitLaws.{rule_back, rule_reversed}
+use Rattle.rule_influence.specs.laws.HitLaws.{rule_back, rule_reversed}
 
 module _ (rules : List RuleValue) where
   live_there : (bytes : List ℕ) (n p : ℕ) → IsLive (reverse rules) bytes n p → IsLive rules bytes (length rules + 1 - n) p

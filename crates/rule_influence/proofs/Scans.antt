@@ -12,10 +12,10 @@ use Rattle.names.specs.declared.record.Record.{Record}
 use Rattle.names.specs.Least.{hits_of}
 use Rattle.names.specs.Paths.{IsName}
 use Rattle.names.specs.Permissions.{has}
-use Rattle.names.proofs.PermsLaws.{has-set_of}
+use Rattle.names.specs.laws.PermissionSets.{has-set_of}
 use Rattle.rule_globs.specs.Rules.{RuleValue}
 use Rattle.rule_globs.specs.Verdict.{Hits, IsAllowed}
-use Rattle.rule_globs.proofs.PlainLaws.{allowed_by_hits}
+use Rattle.rule_globs.specs.laws.PlainLaws.{allowed_by_hits}
 use Rattle.glob_automaton.specs.Least.{IsLeastRecord}
 use Rattle.profile_questions.specs.declared.comparison.Records.{Records}
 use Rattle.profile_questions.specs.Names.{AreLeastHits, AreRepresentatives, ComparisonValue, IsAlike}

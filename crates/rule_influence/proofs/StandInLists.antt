@@ -5,7 +5,7 @@ use Rattle.std.proofs.Common.{slice_get, replicate, sym, ap, ◌∙◌, subst, a
 use Rattle.std.proofs.lemmas.Bool.{cases_lt}
 use Rattle.std.proofs.lemmas.List.{get_or-replicate, length-map, length-replicate}
 use Rattle.std.proofs.lemmas.Option.{get_or_from_slice_get, same_Some, slice_get_within}
-use Rattle.glob_automaton.proofs.AscendingLists.{contains_none}
+use Rattle.glob_automaton.specs.laws.AscendingLists.{contains_none}
 use Rattle.glob_automaton.specs.Least.{IsLeastRecord}
 use Rattle.names.specs.declared.permissions.Permission.{Permission}
 use Rattle.names.specs.declared.kind.RuleKind.{RuleKind}

@@ -8,7 +8,7 @@ use Rattle.names.specs.declared.kind.RuleKind.TheVariants.{Allow, Deny}
 use Rattle.names.specs.declared.record.LeastHits.{LeastHits}
 use Rattle.names.specs.Least.{IsLeastOrNone, hits_of}
 use Rattle.names.specs.Permissions.{has}
-use Rattle.names.proofs.LeastNumbers.{least_some, least_there, none_least}
+use Rattle.names.specs.laws.LeastNumbers.{least_some, least_there, none_least}
 use Rattle.profile_questions.specs.declared.comparison.Records.{Records}
 use Rattle.rule_globs.specs.Glob.{Takes}
 use Rattle.rule_globs.specs.Rules.{RuleValue, holds, pattern}

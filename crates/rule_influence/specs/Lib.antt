@@ -1,3 +1,4 @@
 pub mod Influence
 pub mod StandIns
 pub mod inner
+pub mod laws

@@ -16,7 +16,7 @@ use Rattle.names.specs.declared.verdict.Verdict.TheVariants.{Denied, NoRule, All
 use Rattle.rule_profile.specs.Profile.{RuleValue}
 use Rattle.rule_globs.specs.PlainVerdict.{verdict}
 use Rattle.rule_globs.specs.Verdict.{IsVerdict, IsAllowed}
-use Rattle.names.proofs.PermsLaws.{has-set_of, found, one_found, same_letter}
+use Rattle.names.specs.laws.PermissionSets.{has-set_of, found, one_found, same_letter}
 
 -- a set without members widens nothing
 pub widening_nothing : (s : Perms) → ((p : Permission) → has s p ≡ false) → Fine ≡ widening s

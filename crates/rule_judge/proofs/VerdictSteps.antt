@@ -14,7 +14,7 @@ use Rattle.rule_globs.specs.inner.RuleHits.{HitsSome}
 use Rattle.rule_profile.specs.declared.profile.Rule.{Rule}
 use Rattle.names.specs.declared.kind.RuleKind.{RuleKind}
 use Rattle.names.specs.declared.kind.RuleKind.TheVariants.{Allow, Deny}
-use Rattle.names.proofs.PermsLaws.{has-set_of}
+use Rattle.names.specs.laws.PermissionSets.{has-set_of}
 
 -- what is missing by the rules up to this number
 abbrev pub IsMissingAfter : List RuleValue → List ℕ → Perms → ℕ → Permission → Type 0

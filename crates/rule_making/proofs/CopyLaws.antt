@@ -3,8 +3,8 @@ use Rattle.std.proofs.Common.{◌≡◌, [], ◌∷◌, ◌++◌, Vec, Global, s
 use Rattle.rule_globs.specs.Tokens.{opening, closing, with_commas, tokens}
 use Rattle.rule_globs.specs.declared.items.Item.{Item}
 use Rattle.rule_globs.specs.declared.items.Item.TheVariants as v
-use Rattle.rule_globs.proofs.TokenItems.{tokens-Group}
-use Rattle.rule_writer.proofs.CanonWrites.{items_parts}
+use Rattle.rule_globs.specs.laws.TokenItems.{tokens-Group}
+use Rattle.rule_writer.specs.laws.CanonWrites.{items_parts}
 
 pub same_group : (copies alternatives : Vec (Vec Item Global) Global) →
     with_commas (items_parts copies.items) ≡ with_commas (items_parts alternatives.items) →

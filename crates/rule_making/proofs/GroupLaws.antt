@@ -7,8 +7,8 @@ use Rattle.std.proofs.lemmas.List.{length-map}
 use Rattle.rule_globs.specs.Tokens.{Token, byte, opening, closing, with_commas, tokens, tokens_of, is_full, all_full}
 use Rattle.rule_globs.specs.declared.items.Item.{Item}
 use Rattle.rule_globs.specs.declared.items.Item.TheVariants as v
-use Rattle.rule_globs.proofs.TokenItems.{tokens-Byte, tokens-Group, full-Byte, full-Group}
-use Rattle.rule_writer.proofs.CanonWrites.{items_parts}
+use Rattle.rule_globs.specs.laws.TokenItems.{tokens-Byte, tokens-Group, full-Byte, full-Group}
+use Rattle.rule_writer.specs.laws.CanonWrites.{items_parts}
 use Rattle.rule_making.specs.Leads.{can_be_split, gives_slash, slash_before, group_leads}
 
 -- ---- the slash before the group

@@ -9,7 +9,7 @@ use Rattle.rule_globs.specs.Tokens.{Token, byte, opening, between, closing, with
 use Rattle.rule_globs.specs.declared.items.Item.{Item, Item-F, out-Item, out-roll-Item}
 use Rattle.rule_globs.specs.declared.items.Item.TheVariants as v
 use Rattle.rule_globs.specs.declared.items.Item.TheVariants.{rolls-Byte, rolls-AnyByte, rolls-Class, rolls-Stars, rolls-Group}
-use Rattle.rule_globs.proofs.TokenItems.{EachWithin, item_induction, alternatives_row, tokens-Group, full-Group}
+use Rattle.rule_globs.specs.laws.TokenItems.{EachWithin, item_induction, alternatives_row, tokens-Group, full-Group}
 use Rattle.rule_profile.specs.PathTokens.{is_plain_slash}
 use Rattle.rule_profile.specs.Readable.{is_run, begins_with_run, begins_with_slash, are_tokens, is_path}
 use Rattle.rule_making.specs.Leads.{can_be_split, ends_with, gives_slash, slash_before, stands_alone, group_leads}

@@ -7,12 +7,12 @@ use Rattle.std.proofs.lemmas.Bool.Decides.{nat_tests}
 use Rattle.rule_globs.specs.Each.{Each}
 use Rattle.rule_globs.specs.Tokens.{Token, byte, any_byte, bracket, stars, opening, between, closing, tokens, tokens_of}
 use Rattle.rule_globs.specs.declared.items.Item.{Item}
-use Rattle.rule_globs.proofs.TokenItems.{EachWithin, item_induction, alternatives_row, tokens-Byte, tokens-AnyByte, tokens-Class}
-use Rattle.rule_globs.proofs.TokenItems.{tokens-Stars, tokens-Group}
+use Rattle.rule_globs.specs.laws.TokenItems.{EachWithin, item_induction, alternatives_row, tokens-Byte, tokens-AnyByte, tokens-Class}
+use Rattle.rule_globs.specs.laws.TokenItems.{tokens-Stars, tokens-Group}
 use Rattle.rule_profile.specs.PathTokens.{is_plain_slash, slash_or_end_behind}
 use Rattle.rule_profile.specs.Readable.{is_run, begins_with_run, is_token, are_tokens}
 use Rattle.rule_making.specs.Leads.{ends_with}
-use Rattle.rule_making.proofs.Ends.{some_tokens, ends-append}
+use Rattle.rule_making.specs.laws.Ends.{some_tokens, ends-append}
 
 -- these tokens end with a plain slash, or there are none and one is before them
 abbrev pub slash_after : Bool → List Token → Bool

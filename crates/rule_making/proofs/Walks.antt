@@ -6,8 +6,8 @@ use Rattle.std.specs.Prelude.{option_and_then}
 use Rattle.rule_globs.specs.Tokens.{Token, opening, between, closing, with_commas, tokens, tokens_of}
 use Rattle.rule_globs.specs.declared.items.Item.{Item}
 use Rattle.rule_globs.specs.declared.items.Item.TheVariants as v
-use Rattle.rule_globs.proofs.TokenItems.{tokens-Group}
-use Rattle.rule_writer.proofs.CanonWrites.{length_alternative}
+use Rattle.rule_globs.specs.laws.TokenItems.{tokens-Group}
+use Rattle.rule_writer.specs.laws.CanonWrites.{length_alternative}
 use Rattle.rule_making.specs.declared.place.Place.{Place}
 use Rattle.rule_making.specs.inner.TokenTests.{step, walk}
 

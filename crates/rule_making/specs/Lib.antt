@@ -2,3 +2,4 @@ pub mod Leads
 pub mod Choices
 pub mod Alike
 pub mod inner
+pub mod laws

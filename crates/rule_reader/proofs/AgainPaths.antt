@@ -18,7 +18,7 @@ use Rattle.rule_reader.specs.GrammarPaths.{print_class, WrittenItem, cell, quest
 use Rattle.rule_reader.specs.GrammarPaths.{close_brace, star_bytes, print_item, print_items, first_byte, next_is, stands_for_itself}
 use Rattle.rule_reader.specs.GrammarPaths.{IsItem, depth_behind_item, AreItems, is_plain_slash_item, slash_or_end_behind_item, item_means}
 use Rattle.rule_reader.specs.GrammarPaths.{items_mean, WrittenPath, print_path, IsAbsolute, IsPath, path_means}
-use Rattle.rule_reader.proofs.ReadRuns.{after_again, white_stops}
+use Rattle.rule_reader.specs.laws.ReadRuns.{after_again, white_stops}
 use Rattle.rule_reader.proofs.AgainWords.{quote_regrouped, may_parts}
 use Rattle.rule_reader.proofs.AgainClasses.{class_again}
 

@@ -25,9 +25,9 @@ use Rattle.rule_reader.specs.GrammarPaths.{WrittenPath, print_path, IsPath, path
 use Rattle.rule_reader.specs.Grammar.{Qualifier, none, allow, deny, print_qualifier, IsQualifier, kind_of, IsWord, WrittenRule, print_body}
 use Rattle.rule_reader.specs.Grammar.{print_rule, CommaEnds, PathStands, BeginsNoAll, IsRule, rule_means, print_rules, behind_rule}
 use Rattle.rule_reader.specs.Grammar.{AreRules, rules_mean}
-use Rattle.names.proofs.PermsLaws.{one_found}
+use Rattle.names.specs.laws.PermissionSets.{one_found}
 use Rattle.rule_reader.proofs.ReadSteps.{chosen, none_some}
-use Rattle.rule_reader.proofs.ReadRuns.{Passes}
+use Rattle.rule_reader.specs.laws.ReadRuns.{Passes}
 use Rattle.rule_reader.proofs.AgainWords.{blank_again, gap_again, gap_stops, word_again, after_word_again}
 use Rattle.rule_reader.proofs.AgainPaths.{PathEnds, path_again, path_begins}
 

@@ -13,7 +13,7 @@ use Rattle.rule_reader.specs.TextBytes.{is_quote}
 use Rattle.rule_reader.specs.GrammarWords.{Cell, plain, escaped, print_cells, may_stand, IsNameCell, Piece, white, comment, print_blank}
 use Rattle.rule_reader.specs.GrammarWords.{IsCommentByte, IsBlank, IsGap, Stands, print_last, IsLast}
 use Rattle.rule_globs.specs.Each.{Each}
-use Rattle.rule_reader.proofs.ReadRuns.{Passes, leading_again, after_again, white_stops}
+use Rattle.rule_reader.specs.laws.ReadRuns.{Passes, leading_again, after_again, white_stops}
 
 -- ---- comments
 

@@ -24,7 +24,7 @@ use Rattle.rule_profile.specs.Readable as readable
 use Rattle.rule_profile.specs.Readable.{can_stand, are_name_bytes, is_name, is_range, is_path, is_rule, is_profile}
 use Rattle.rule_globs.specs.Tokens.{Token, stars}
 use Rattle.rule_reader.specs.TextBytes.{is_white, is_star, is_escapable}
-use Rattle.names.proofs.PermsLaws.{has-set_of, found, one_found}
+use Rattle.names.specs.laws.PermissionSets.{has-set_of, found, one_found}
 use Rattle.rule_reader.proofs.ReadSteps.{chosen, some_is, none_some}
 
 -- ---- bytes

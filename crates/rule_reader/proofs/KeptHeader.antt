@@ -13,7 +13,7 @@ use Rattle.rule_reader.specs.ReadWords.{name_bytes, name_in, quoted_name, word, 
 use Rattle.rule_reader.specs.TextBytes.{begins, is_quote, is_open_brace, is_letter_byte}
 use Rattle.rule_reader.proofs.Kept.{IsFault, claims, KeptBytes, KeptPair, by_test, nothing, known, stays, faults, fault_if, stop_is}
 use Rattle.rule_reader.proofs.Kept.{kept_if, after_bytes, after_pair}
-use Rattle.rule_reader.proofs.ReadRuns.{apart}
+use Rattle.rule_reader.specs.laws.ReadRuns.{apart}
 use Rattle.rule_reader.proofs.KeptWords.{word_cases, gap_kept, name_in_kept, quoted_name_kept, name_in_room, quoted_name_room}
 
 pub slash_name_kept : (room : ℕ) (bytes more : List ℕ) → KeptPair more (slash_name_at room bytes) (slash_name_at room (bytes ++ more))

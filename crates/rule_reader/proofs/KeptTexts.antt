@@ -28,7 +28,7 @@ use Rattle.rule_reader.proofs.Kept.{kept_bind, after_bytes, after_pair}
 use Rattle.rule_reader.proofs.KeptHeader.{header_kept}
 use Rattle.rule_reader.proofs.KeptPaths.{over, path_kept}
 use Rattle.rule_reader.proofs.KeptWords.{word_cases, ended_word, blank_kept, gap_kept}
-use Rattle.rule_reader.proofs.ReadRuns.{apart}
+use Rattle.rule_reader.specs.laws.ReadRuns.{apart}
 
 -- ---- permissions
 

@@ -1,5 +1,4 @@
 pub mod ReadSteps
-pub mod ReadRuns
 pub mod TokenSteps
 pub mod AgainWords
 pub mod AgainHeader
@@ -8,7 +7,6 @@ pub mod AgainPaths
 pub mod AgainRules
 pub mod AgainTexts
 pub mod CanonTrees
-pub mod ReadCodeWords
 pub mod ReadLoops
 pub mod ReadCodePaths
 pub mod ReadCodeText

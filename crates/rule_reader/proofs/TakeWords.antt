@@ -18,7 +18,7 @@ use Rattle.rule_reader.specs.ReadWords.{leading, blank_at, blank, gap, literal, 
 use Rattle.rule_reader.specs.TextBytes.{begins, is_white, is_hash, opens_blank, is_include_mark, is_include, is_letter_byte, is_word_byte}
 use Rattle.rule_reader.specs.TextBytes.{is_quote}
 use Rattle.rule_reader.proofs.ReadSteps.{bind_ok, chosen, ok_is, not_ok}
-use Rattle.rule_reader.proofs.ReadRuns.{leading_parts, white_stops}
+use Rattle.rule_reader.specs.laws.ReadRuns.{leading_parts, white_stops}
 
 -- ---- comments
 

@@ -11,7 +11,7 @@ use Rattle.rule_globs.specs.Tokens.{Token, opening, between, closing, tokens, to
 use Rattle.rule_globs.specs.declared.items.Item.{Item}
 use Rattle.rule_globs.specs.declared.items.Item.TheVariants as v
 use Rattle.rule_reader.specs.declared.reader.builder.OpenGroup.{OpenGroup}
-use Rattle.rule_globs.proofs.TokenItems.{alternatives_row, tokens-Group, some_full, full-Group}
+use Rattle.rule_globs.specs.laws.TokenItems.{alternatives_row, tokens-Group, some_full, full-Group}
 
 -- ---- a group closes
 

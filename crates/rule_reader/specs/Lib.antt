@@ -14,3 +14,4 @@ pub mod GrammarPaths
 pub mod Grammar
 pub mod ReadFaults
 pub mod inner
+pub mod laws

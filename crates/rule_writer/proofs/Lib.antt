@@ -4,4 +4,3 @@ pub mod CanonItems
 pub mod CanonTexts
 pub mod Canon
 pub mod CanonRules
-pub mod CanonWrites

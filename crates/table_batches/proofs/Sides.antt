@@ -9,7 +9,7 @@ use Rattle.tables.specs.Tables.{Table, state_after, state_from, next_state}
 use Rattle.table_verifier.specs.Eight.{AreNext}
 use Rattle.table_batches.specs.Batches.{IsAfter, name_at}
 use Rattle.table_batches.specs.inner.Seats.{AreAfterTo, AreLed}
-use Rattle.table_verifier.proofs.StepsOfTables.{goes_on, state_next}
+use Rattle.table_verifier.specs.laws.StepsOfTables.{goes_on, state_next}
 
 -- what holds of each of eight
 pub eight : (P : ℕ → Type 0) → P 0 → P 1 → P 2 → P 3 → P 4 → P 5 → P 6 → P 7 → (k : ℕ) → k < 8 → P k

@@ -5,7 +5,7 @@ use Rattle.tables.specs.Bounds.{HasFault, InBounds, InLimits, IsFirstFault, IsSh
 use Rattle.tables.specs.Tables.{Table, state_count, cell_count, record_count}
 use Rattle.tables.specs.declared.fault.ImageFault.{ImageFault}
 use Rattle.tables.specs.declared.fault.ImageFault.TheVariants as fault
-use Rattle.tables.proofs.Decisions.{decided_limits, decided_shaped, deep_or_not, entries_outcome, places_outcome}
+use Rattle.tables.specs.laws.Decisions.{decided_limits, decided_shaped, deep_or_not, entries_outcome, places_outcome}
 
 -- fault n at place j is tested before fault k at place p
 abbrev pub Earlier : ℕ → ℕ → ℕ → ℕ → Type 0

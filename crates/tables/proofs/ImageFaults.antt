@@ -11,7 +11,7 @@ use Rattle.tables.specs.inner.ReadTables.{table_at}
 use Rattle.tables.specs.Tables.{Table}
 use Rattle.tables.specs.declared.fault.ImageFault.{ImageFault}
 use Rattle.tables.specs.declared.fault.ImageFault.TheVariants as fault
-use Rattle.tables.proofs.Decisions.{decided_equal, decided_limits, decided_list}
+use Rattle.tables.specs.laws.Decisions.{decided_equal, decided_limits, decided_list}
 use Rattle.tables.proofs.Wholes.{low_bytes, whole_is_image}
 
 module _ (bytes : List ℕ) where

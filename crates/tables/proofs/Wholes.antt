@@ -12,8 +12,8 @@ use Rattle.names.specs.Permissions.{index}
 use Rattle.names.specs.declared.permissions.Permission.TheVariants.{Append, Write}
 use Rattle.names.specs.Least.{hits_of}
 use Rattle.names.specs.declared.record.Record.{Record}
-use Rattle.names.proofs.Positions.{place_below, stands_there}
-use Rattle.names.proofs.RecordLaws.{hits_made}
+use Rattle.names.specs.laws.Positions.{place_below, stands_there}
+use Rattle.names.specs.laws.Records.{hits_made}
 use Rattle.names.specs.Bytes.{are_bytes}
 use Rattle.tables.specs.Bounds.{InLimits}
 use Rattle.tables.specs.Images.{AreShort, HasRoom, HasVersion, FitsVersion1, IsShortRecord, IsVersionOf, IsWholeOf}

@@ -15,13 +15,13 @@ use Rattle.trace_report.specs.declared.status.Status.TheVariants.{Refused}
 use Rattle.trace_report.specs.Fault.{IsFaultOfReading, fault_of_image}
 use Rattle.trace_report.specs.Output.{Output, fault, image_refusal}
 use Rattle.trace_report.specs.Streams.{IsTextOf}
-use Rattle.trace_report.proofs.Endings.{text_of}
+use Rattle.trace_report.specs.laws.Endings.{text_of}
 use Rattle.trace_commands.specs.ReadImages.{ReadsImage}
 use Rattle.trace_commands.specs.Tables.{IsImageRefused}
 use Rattle.trace_report.specs.Fault.{AreGood, IsFaultOfOne}
 use Rattle.trace_commands.specs.inner.Answers.{IsRefusedText, IsUnread}
 use Rattle.trace_commands.proofs.Consumption.{all_read, consumes_more, consumes_nothing, text_begins}
-use Rattle.trace_commands.proofs.OneOutput.{unread_one}
+use Rattle.trace_commands.specs.laws.OneOutput.{unread_one}
 
 -- a fault of bytes is reported as one of an image
 reported : (bytes : List ℕ) (f : ImageFault) → HasImageFault bytes f → fault_of_image f ≡ Image f

@@ -3,3 +3,4 @@ pub mod Judge
 pub mod Explain
 pub mod ReadImages
 pub mod inner
+pub mod laws

@@ -12,7 +12,7 @@ use Rattle.trace_report.specs.declared.fault.Fault.TheVariants.{Input, Memory}
 use Rattle.trace_report.specs.declared.status.Status.{Status}
 use Rattle.trace_report.specs.declared.status.Status.TheVariants.{BadArguments, InputFailed, NoMemory, Refused}
 use Rattle.trace_report.specs.Fault.{fault_text, fault_status}
-use Rattle.trace_report.proofs.Endings.{keeps, told_alone, written}
+use Rattle.trace_report.specs.laws.Endings.{keeps, told_alone, written}
 use Rattle.trace_import.specs.Import.{IsImportOutput, import_output, refusal_of}
 
 -- no import reports bad arguments

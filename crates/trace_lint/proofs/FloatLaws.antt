@@ -1,7 +1,7 @@
 -- What is found has no floats.
 use Rattle.std.proofs.Common.{◌≡◌, ◌||◌, ℕ, Bool, false, List, [], ◌∷◌, Option, Some, None, map, refl}
 use Rattle.std.specs.Prelude.{codes}
-use Rattle.answer_json.proofs.NoFloats.{no_float_in_rule}
+use Rattle.answer_json.specs.laws.NoFloats.{no_float_in_rule}
 use Rattle.answer_json.specs.Values.{number_or_null, rule_object}
 use Rattle.names.specs.declared.permissions.Permission.{Permission}
 use Rattle.rule_globs.specs.Rules.{RuleValue}

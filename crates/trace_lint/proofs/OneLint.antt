@@ -6,12 +6,12 @@ use Rattle.std.proofs.lemmas.Bool.{cases_Bool}
 use Rattle.std.proofs.lemmas.List.{same_lists}
 use Rattle.std.proofs.lemmas.List.Elements.{All-head, All-tail}
 use Rattle.std.proofs.lemmas.Option.{slice_get-get_or}
-use Rattle.names.proofs.PermsTests.{same_perms}
+use Rattle.names.specs.laws.PermissionSets.{same_perms}
 use Rattle.names.specs.Permissions.{has}
 use Rattle.names.specs.declared.permissions.Permission.{Permission}
 use Rattle.names.specs.declared.permissions.Perms.{Perms}
 use Rattle.rule_globs.specs.Rules.{RuleValue}
-use Rattle.rule_influence.proofs.IdleStandIns.{one_list}
+use Rattle.rule_influence.specs.laws.IdleStandIns.{one_list}
 use Rattle.rule_influence.specs.Influence.{AreDecided}
 use Rattle.rule_influence.specs.StandIns.{AreTheStandIns}
 use Rattle.rule_reader.specs.Spans.{spans_of}

@@ -7,8 +7,8 @@ use Rattle.std.specs.Option.{option_map_or}
 use Rattle.std.proofs.lemmas.Bool.{and_from, and_parts, cases_Bool, cases_eq, not-true}
 use Rattle.std.proofs.lemmas.List.Elements.{All-append, All-cons, All-nil, Contains-append_left, Contains-append_right}
 use Rattle.std.proofs.lemmas.Option.{slice_get-get_or}
-use Rattle.names.proofs.PermsLaws.{all_pass, each_passes, none_found, one_found}
-use Rattle.names.proofs.Positions.{place_below, stands_there}
+use Rattle.names.specs.laws.PermissionSets.{all_pass, each_passes, none_found, one_found}
+use Rattle.names.specs.laws.Positions.{place_below, stands_there}
 use Rattle.names.specs.Permissions.{all_permissions, has, held, index}
 use Rattle.names.specs.declared.kind.RuleKind.{RuleKind}
 use Rattle.names.specs.declared.permissions.Permission.{Permission}
@@ -16,7 +16,7 @@ use Rattle.names.specs.declared.permissions.Perms.{Perms}
 use Rattle.rule_globs.specs.Rules.{RuleValue}
 use Rattle.rule_globs.specs.Verdict.{Hits}
 use Rattle.rule_influence.specs.Influence.{AreDecided, Decides, IsIdle}
-use Rattle.rule_influence.proofs.HitLaws.{lone_decides}
+use Rattle.rule_influence.specs.laws.HitLaws.{lone_decides}
 use Rattle.trace_lint.specs.Parts.{case_of, decided_by, decides_none_of, decides_nothing, held_by, idle_letters}
 use Rattle.trace_lint.specs.Parts.{idle_parts, letters_of, no_perms, parts_of_rule}
 use Rattle.trace_lint.specs.declared.findings.Part.{Part}

@@ -1,7 +1,7 @@
 -- Tests of sets of permissions.
 use Rattle.std.proofs.Common.{◌≡◌, ◌↔◌, Bool, true, false, not, IsTrue, refl, sym, ap}
 use Rattle.std.proofs.lemmas.Bool.{not-true, not_from_false}
-use Rattle.names.proofs.PermsLaws.{all_pass, each_passes, shares_by_any}
+use Rattle.names.specs.laws.PermissionSets.{all_pass, each_passes, shares_by_any}
 use Rattle.names.specs.Permissions.{Shares, has}
 use Rattle.names.specs.declared.permissions.Permission.{Permission}
 use Rattle.names.specs.declared.permissions.Perms.{Perms}

@@ -14,8 +14,8 @@ use Rattle.trace_report.specs.Output.{Output}
 use Rattle.trace_report.specs.Streams.{EndsAnswered, IsTold}
 use Rattle.trace_report.specs.declared.status.Status.{Status}
 use Rattle.trace_report.specs.declared.status.Status.TheVariants.{NoMemory}
-use Rattle.trace_commands.proofs.OneOutput.{compile_arguments, check_arguments}
-use Rattle.trace_report.proofs.Endings.{keeps, nothing_yet, text_of, told_alone}
+use Rattle.trace_commands.specs.laws.OneOutput.{compile_arguments, check_arguments}
+use Rattle.trace_report.specs.laws.Endings.{keeps, nothing_yet, text_of, told_alone}
 
 abbrev Texts : Type 0
 Texts = List ℕ → Option (List ℕ)

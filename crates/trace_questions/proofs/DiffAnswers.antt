@@ -28,7 +28,7 @@ use Rattle.trace_questions.specs.inner.Differences.{IsCompileRefusalIn, IsDiffAn
 use Rattle.trace_questions.specs.inner.Sides.{side_fault_of, side_fault_status, side_fault_text}
 use Rattle.trace_questions.proofs.Endings.{found_good, refused_good}
 use Rattle.trace_questions.proofs.Refused.{compile_cases, compile_refused, question_refused}
-use Rattle.trace_report.proofs.Endings.{answered_told, keeps, told_alone, written}
+use Rattle.trace_report.specs.laws.Endings.{answered_told, keeps, told_alone, written}
 use Rattle.trace_report.specs.Fault.{AreGood, IsFaultOfAnswer, fault_of_text, fault_text}
 use Rattle.trace_report.specs.Output.{Output, compile_refusal, fault, finding, question_refusal, refusal}
 use Rattle.trace_report.specs.Streams.{EndsAnswered, IsTold}

@@ -3,3 +3,4 @@ pub mod Output
 pub mod Streams
 pub mod Fault
 pub mod ReadStreams
+pub mod laws

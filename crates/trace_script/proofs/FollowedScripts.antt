@@ -15,8 +15,8 @@ use Rattle.trace_script.specs.Script.{Section, outside, within, LineOf, ignored,
 use Rattle.trace_script.specs.Script.{ScriptOf, script_by, first_command, stops_at}
 use Rattle.trace_report.specs.Output.{line}
 use Rattle.trace_report.specs.Streams.{AppendsFront}
-use Rattle.trace_report.proofs.Endings.{appends_nothing, keeps}
-use Rattle.trace_report.proofs.Fronts.{Appends-more}
+use Rattle.trace_report.specs.laws.Endings.{appends_nothing, keeps}
+use Rattle.trace_report.specs.laws.Fronts.{Appends-more}
 use Rattle.trace_script.proofs.Grammars.{script_kind, script_within, few_commands}
 
 -- ---- lines that are written

@@ -1,6 +1,6 @@
 -- The outcome of a line, by what it says and by the section that it is in.
 use Rattle.std.proofs.Common.{◌≡◌, ℕ, Bool, true, false, List, [], ◌∷◌, ◌++◌, Option, Err, Vec, Global, MatchBool, refl, sym, ap, subst}
-use Rattle.trace_report.proofs.Endings.{keeps}
+use Rattle.trace_report.specs.laws.Endings.{keeps}
 use Rattle.trace_script.specs.declared.section.Section.{Section as SectionHere}
 use Rattle.trace_script.specs.declared.section.Section.TheVariants.{Within}
 use Rattle.trace_script.specs.declared.stop.Stop.{Stop}

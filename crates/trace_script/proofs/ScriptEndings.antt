@@ -17,7 +17,7 @@ use Rattle.trace_report.specs.Streams.{AppendsFront, IsTold, IsWritten, Streams,
 use Rattle.trace_script.proofs.Exact.{IsFollowedBy, IsShortBy, lines_by}
 use Rattle.trace_script.proofs.FollowedScripts.{text_of_lines-append}
 use Rattle.trace_script.proofs.PrintedLines.{first_run_lines_are, run_lines_are}
-use Rattle.trace_report.proofs.Endings.{appends_nothing}
+use Rattle.trace_report.specs.laws.Endings.{appends_nothing}
 
 output_is : (limit : StateLimit) (history : History) (script : Script) (stopped : Option ℕ) → script.stopped ≡ stopped →
     script_output limit history script ≡ ended_output (printed_lines limit history script.commands) stopped

@@ -14,8 +14,8 @@ use Rattle.trace_script.specs.FollowedScripts.{Engine, Lines, DoesAll, IsFollowe
 use Rattle.trace_script.specs.RunOutput.{text_of_lines}
 use Rattle.trace_script.specs.Script.{Section, outside, line_feed, lines_of, stops_at, ScriptOf}
 use Rattle.trace_report.specs.Streams.{IsTextOf}
-use Rattle.trace_report.proofs.Endings.{appends_nothing, keeps}
-use Rattle.trace_report.proofs.Fronts.{Appends-kept}
+use Rattle.trace_report.specs.laws.Endings.{appends_nothing, keeps}
+use Rattle.trace_report.specs.laws.Fronts.{Appends-kept}
 use Rattle.trace_script.proofs.FollowedScripts.{IsAhead, ahead_next, all_done, did_more, first_done, from_line}
 use Rattle.trace_script.proofs.FollowedScripts.{front_more, next_line, no_line}
 use Rattle.trace_script.proofs.FollowedScripts.{still_few, stopped_left, wrote_more}

@@ -8,7 +8,7 @@ use Rattle.trace_report.specs.declared.status.Status.{Status}
 use Rattle.trace_report.specs.declared.status.Status.TheVariants.{Done, Refused}
 use Rattle.trace_report.specs.Output.{line}
 use Rattle.trace_report.specs.Streams.{AppendsFront, IsTold, IsWritten, Streams, streams}
-use Rattle.trace_report.proofs.Endings.{appends_nothing}
+use Rattle.trace_report.specs.laws.Endings.{appends_nothing}
 use Rattle.trace_script.specs.declared.stop.Stop.{Stop}
 use Rattle.trace_script.specs.declared.stop.Stop.TheVariants.{NoCommand, Input, TooLong, Memory, Output}
 use Rattle.trace_script.specs.Engine.{stop_text, stop_status}

@@ -1,7 +1,7 @@
 -- What an expectation adds to what was printed.
 use Rattle.std.proofs.Common.{◌≡◌, ℕ, Bool, true, false, cond, not, List, [], ◌∷◌, map, Option, Result, Ok, Err, refl, sym, subst}
 use Rattle.trace_report.specs.Output.{line}
-use Rattle.trace_report.proofs.Endings.{appends_nothing, keeps}
+use Rattle.trace_report.specs.laws.Endings.{appends_nothing, keeps}
 use Rattle.trace_script.specs.declared.stop.Stop.{Stop}
 use Rattle.trace_script.specs.Engine.{IsPut}
 use Rattle.trace_script.specs.FollowedScripts.{IsPrinted, IsStep, Step}

@@ -2,7 +2,7 @@
 use Rattle.std.proofs.Common.{◌≡◌, ℕ, Bool, false, List, refl}
 use Rattle.std.specs.Prelude.{◌||◌, Option, Some, None}
 use Rattle.serde_json.specs.Written.{has_float}
-use Rattle.answer_json.proofs.NoFloats.{no_float_in_name}
+use Rattle.answer_json.specs.laws.NoFloats.{no_float_in_name}
 use Rattle.trace_test.specs.TestOutput.{count_object, name_or_null}
 
 pub no_float_in_option : (name : Option (List ℕ)) → has_float (name_or_null name) ≡ false

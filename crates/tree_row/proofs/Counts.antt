@@ -9,8 +9,8 @@ use Rattle.std.proofs.lemmas.Map.Made.{length-le_from_is_member}
 use mathlib.Core.Logic.{dite}
 use native.Mathlib.Decide.{ℕ_discrete}
 use Rattle.directory_tree.specs.Tree.{Tree, Entry, Distinct, find, is_at}
-use Rattle.directory_tree.proofs.Basics.{some_inj, none_is_some}
-use Rattle.directory_tree.proofs.Found.{at_once}
+use Rattle.std.proofs.lemmas.Option.{none-some, same_Some}
+use Rattle.directory_tree.specs.laws.Found.{at_once}
 use Rattle.directory_tree.proofs.Walks.{first}
 use Rattle.tree_row.specs.Slots.{Slot, entry_at, IsUsed, IsFree}
 use Rattle.tree_row.specs.Rows.{EncodesSlots}
@@ -22,7 +22,7 @@ true_is_false e = absurd (cc e)
 later : (y : Entry) (es : List Entry) (d : ℕ) (c : List ℕ) (e : Entry) → find es y.of y.component ≡ None → find es d c ≡ Some e →
     find (y ∷ es) d c ≡ Some e
 later y es d c e none is = elim (is_at d c y) as (λ (b : Bool). is_at d c y ≡ b → (if b then Some y else find es d c) ≡ Some e) [
-  | true ↦ λ q. let k = at_once d c y.of y.component q in absurd (none_is_some e (sym none ∙ (λ i. find es (k.0 i) (k.1 i)) ∙ is))
+  | true ↦ λ q. let k = at_once d c y.of y.component q in absurd (none-some e (sym none ∙ (λ i. find es (k.0 i) (k.1 i)) ∙ is))
   | false ↦ λ q. is
 ] refl
 
@@ -107,14 +107,14 @@ module _ (n : ℕ) (f : ℕ → Slot) (t : Tree) (enc : EncodesSlots n f t) wher
   every_slot : (es : List Entry) (apart : Distinct es) (h : Within es) (q : ℕ) → IsSlotOf es q →
       is_member nat_eq (slots_for es apart h) q ≡ true
   unfolding slots_for
-  every_slot [] apart h q k = absurd (none_is_some _ k.found)
+  every_slot [] apart h q k = absurd (none-some _ k.found)
   every_slot (e ∷ es) apart h q k =
       let own = own_slot e es h in
       let z = entry_at f q in
       elim (is_at z.of z.component e) as (λ (b : Bool). is_at z.of z.component e ≡ b → (if b then Some e else find es z.of z.component)
       ≡ Some z → (nat_eq q own.0 || is_member nat_eq (slots_for es apart.1 (rest_within e es apart h)) q) ≡ true) [
         | true ↦ λ p r. ap (λ (b : Bool). b || is_member nat_eq (slots_for es apart.1 (rest_within e es apart h)) q)
-            (eq-eqb q own.0 (enc.once q own.0 k.used own.1 (sym (some_inj e z r) ∙ sym own.2)))
+            (eq-eqb q own.0 (enc.once q own.0 k.used own.1 (sym (same_Some e z r) ∙ sym own.2)))
         | false ↦ λ p r. or_right (nat_eq q own.0) _
             (every_slot es apart.1 (rest_within e es apart h) q record { used = k.used; found = r })
       ] refl k.found
@@ -143,7 +143,7 @@ module _ (n : ℕ) (f : ℕ → Slot) (t : Tree) (enc : EncodesSlots n f t) wher
         not_in own.0 (slots_for es apart.1 (rest_within e es apart h)) (λ q is same.
             let k = all_slots es apart.1 (rest_within e es apart h) q is in
             let at_q : entry_at f q ≡ e = ap (entry_at f) (sym same) ∙ own.2 in
-            absurd (none_is_some _ (sym apart.0 ∙ (λ i. find es (sym at_q i).of (sym at_q i).component) ∙ k.found))),
+            absurd (none-some _ (sym apart.0 ∙ (λ i. find es (sym at_q i).of (sym at_q i).component) ∙ k.found))),
         distinct_slots es apart.1 (rest_within e es apart h),
       )
 

@@ -3,11 +3,7 @@ pub mod PackedWords
 pub mod Slots
 pub mod SeenSlots
 pub mod Counts
-pub mod OpeningRow
-pub mod OneTree
 pub mod SeenEntries
 pub mod Knowledge
-pub mod Decisions
-pub mod TakenWords
 pub mod Merges
 pub mod IndexSearch

@@ -1,6 +1,6 @@
 -- What the slots of a directory's entries, and free slots, say about the worlds that are seen.
 use Rattle.std.proofs.Common.{◌≡◌, ℕ, ◌+◌, ◌<◌, ◌≤◌, ◌≢◌, Bool, true, false, List, length, Some, None, Option, sym, refl, ap, ◌∙◌, subst}
-use Rattle.std.proofs.Common.{arith}
+use Rattle.std.proofs.Common.{arith, true≢false}
 use mathlib.Core.Logic.{dite}
 use Rattle.std.specs.Prelude.{Result, Ok, Err, IfOk}
 use native.Mathlib.Decide.{ℕ_discrete}
@@ -11,8 +11,8 @@ use Rattle.directory_tree.specs.Tree.{Entry, find, is_empty}
 use Rattle.directory_tree.specs.Walk.{Spot}
 use Rattle.directory_tree.specs.Walk.Spot.{Held}
 use Rattle.directory_tree.specs.Spots.{node_at}
-use Rattle.directory_tree.proofs.Basics.{none_is_some, true_is_false}
-use Rattle.directory_tree.proofs.Found.{empty_none}
+use Rattle.std.proofs.lemmas.Option.{none-some}
+use Rattle.directory_tree.specs.laws.Found.{empty_none}
 use Rattle.directory_tree.proofs.Placement.{none_empty}
 use Rattle.path_lookup.specs.World.{World}
 use Rattle.tree_row.specs.Slots.{slot_at}
@@ -24,13 +24,13 @@ use Rattle.tree_row.proofs.Counts.{room_free, room_full, room_most}
 
 not_empty : (es : List Entry) (d : ℕ) (c : List ℕ) (e : Entry) → find es d c ≡ Some e → is_empty es d ≡ false
 not_empty es d c e h = elim (is_empty es d) as (λ (b : Bool). is_empty es d ≡ b → is_empty es d ≡ false) [
-  | true ↦ λ q. absurd (none_is_some e (sym (empty_none es d c q) ∙ h))
+  | true ↦ λ q. absurd (none-some e (sym (empty_none es d c q) ∙ h))
   | false ↦ λ q. q
 ] refl
 
 none_held : (o : Option Entry) → option_map Held o ≡ None → o ≡ None
 none_held None h = refl
-none_held (Some e) h = absurd (none_is_some (Held e) (sym h))
+none_held (Some e) h = absurd (none-some (Held e) (sym h))
 
 -- no slot before s holds an entry of the directory
 abbrev pub NoEntryBelow : ℕ → (List ℕ → Type 0) → ℕ → ℕ → Type 0
@@ -73,7 +73,7 @@ module _ (capacity after : ℕ) (may may' : List ℕ → Type 0) (d : ℕ) (same
   seen_childless row w h enc false tells =
       elim (is_empty w.tree.entries (node_at (w.named d))) as
       (λ (b : Bool). is_empty w.tree.entries (node_at (w.named d)) ≡ b → b ≡ false) [
-        | true ↦ λ e. absurd (tells row h (λ s x. true_is_false (sym e ∙ seen_entry capacity row w enc d s x)))
+        | true ↦ λ e. absurd (tells row h (λ s x. true≢false (sym e ∙ seen_entry capacity row w enc d s x)))
         | false ↦ λ e. refl
       ] refl
 

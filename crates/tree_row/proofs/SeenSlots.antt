@@ -1,6 +1,6 @@
 -- What the words that were read say about the worlds that are seen.
 use Rattle.std.proofs.Common.{◌≡◌, ℕ, zero, suc, ◌+◌, ◌*◌, ◌/◌, ◌%◌, ◌<◌, ◌≤◌, ◌≢◌, List, [], length, Some, None, sym, ap, ◌∙◌, subst}
-use Rattle.std.proofs.Common.{arith}
+use Rattle.std.proofs.Common.{arith, true≢false}
 use Rattle.std.specs.Prelude.{slice_index}
 use Rattle.directory_tree.specs.declared.node.NodeKind.TheVariants.{Link}
 use Rattle.directory_tree.specs.declared.node.Kind.TheVariants as kind
@@ -8,7 +8,6 @@ use Rattle.directory_tree.specs.Walk.{Spot}
 use Rattle.directory_tree.specs.Walk.Spot.{Root, Held}
 use Rattle.directory_tree.specs.Spots.{node_at, kind_at, component_at, shape_of, child_of, directory_of}
 use Rattle.directory_tree.specs.Components.{is_filled}
-use Rattle.directory_tree.proofs.Basics.{true_is_false}
 use Rattle.path_lookup.specs.World.{World}
 use Rattle.tree_row.specs.Slots.{slot_at, text_at, kind_from, entry_at, IsUsed, IsChildSlot, IsDirectorySlot}
 use Rattle.tree_row.specs.Search.{InEncoding, TellsFound, EncodesNone}
@@ -141,7 +140,7 @@ module _ (capacity after : ℕ) (may may' : List ℕ → Type 0) (same : after �
       let own = used after row w enc s known.within (known.filled row w h enc) past in
       let filled = (w.sound.named _ _ _ (enc.tree.slots.there s own)).filled in
       let empty : (slot_at row s).component ≡ [] = ap (text_at row (164 * s + 4)) (ap (λ (z : ℕ). z % 65536) (reads row h) ∙ none) in
-      absurd (true_is_false (sym filled ∙ ap is_filled empty))
+      absurd (true≢false (sym filled ∙ ap is_filled empty))
 
   pub torn_text : (lengths : ℕ) → Reads may' (λ row. slice_index row (164 * s + 3)) lengths → 1023 < lengths / 65536 → (w : World) →
       ¬ (SeesBy after may' w)

@@ -10,7 +10,7 @@ use Rattle.directory_tree.specs.Tree.{Tree, Entry, WellFormed, root, find, own_e
 use Rattle.directory_tree.specs.Walk.{Spot, spot_of}
 use Rattle.directory_tree.specs.Walk.Spot.{Root, Held}
 use Rattle.directory_tree.specs.Spots.{node_at, kind_at, shape_of, child_of, directory_of}
-use Rattle.directory_tree.proofs.Found.{found_at}
+use Rattle.directory_tree.specs.laws.Found.{found_at}
 use Rattle.directory_tree.proofs.Presence.{placed_at}
 use Rattle.tree_row.specs.Slots.{Slot, kind_from, entry_at, IsUsed, IsChildSlot, IsDirectorySlot}
 use Rattle.tree_row.specs.Rows.{EncodesSlots}

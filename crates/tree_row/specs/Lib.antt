@@ -7,3 +7,4 @@ pub mod Search
 pub mod Known
 pub mod ReadWords
 pub mod inner
+pub mod laws

@@ -3,7 +3,7 @@ use Rattle.std.proofs.lemmas.Result.{IfOk-weaker}
 use Rattle.rule_profile.specs.Profile.{profile_value}
 use Rattle.rule_profile.specs.RuleSpans.{profile_spans}
 use Rattle.serde_json.specs.Written.{has_float}
-use Rattle.answer_json.proofs.NoFloats.{no_float_in_reason}
+use Rattle.answer_json.specs.laws.NoFloats.{no_float_in_reason}
 use Rattle.answer_json.proofs.reasons.reason_object.Goals as goal
 
 pub returns-clause-integers : goal.returns-clause-integers

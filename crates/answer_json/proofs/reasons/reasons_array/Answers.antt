@@ -10,7 +10,7 @@ use Rattle.serde_json.specs.View.{items_of, view}
 use Rattle.serde_json.specs.Written.{has_float}
 use Rattle.serde_json.specs.declared.value.Value.{Value, Array, the_lemmas}
 use Rattle.answer_json.specs.Values.{reason_object}
-use Rattle.answer_json.proofs.NoFloats.{no_float_in_reasons}
+use Rattle.answer_json.specs.laws.NoFloats.{no_float_in_reasons}
 use Rattle.answer_json.proofs.PassedMembers.{passed, failed}
 use Rattle.answer_json.proofs.reasons.reasons_array.Goals as goal
 use Rattle.answer_json.proofs.reasons.reasons_array.Goals.{then-contains+in_ok-reason+in-Ok, else-contains}

@@ -1,4 +1,4 @@
-use Rattle.apparmor_rules.proofs.RestatedPerms.{not_empty}
+use Rattle.apparmor_rules.specs.laws.RestatedPerms.{not_empty}
 use Rattle.apparmor_rules.proofs.shape.has_some.Goals as goal
 
 pub returns : goal.returns

@@ -6,7 +6,7 @@ use Rattle.std.specs.Ordering.{nat_cmp}
 use Rattle.std.specs.declared.alloc.Global.{Global}
 use Rattle.apparmor_variables.specs.Pieces.{Text}
 use Rattle.apparmor_variables.specs.inner.Known.{place_of}
-use Rattle.names.proofs.ByteKeys.{updates_bytes}
+use Rattle.names.specs.laws.ByteKeys.{updates_bytes}
 use Rattle.apparmor_variables.proofs.Places.{first_of_two}
 use Rattle.apparmor_variables.proofs.PlaceSteps.{place_more, new_placed, old_placed, none_found, some_found}
 use Rattle.apparmor_variables.proofs.declared.places_of.Goals.{then-is_none+in_ok-from_slice+in_ok-insert, else-is_none}

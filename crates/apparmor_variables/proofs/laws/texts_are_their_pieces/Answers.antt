@@ -1,4 +1,4 @@
-use Rattle.apparmor_variables.proofs.PieceLaws.{written_again}
+use Rattle.apparmor_variables.specs.laws.PieceLaws.{written_again}
 use Rattle.apparmor_variables.proofs.laws.texts_are_their_pieces.Goals as goal
 
 pub returns : goal.returns

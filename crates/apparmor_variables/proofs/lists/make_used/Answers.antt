@@ -6,7 +6,7 @@ use Rattle.apparmor_variables.specs.PathTexts.{PathProblem, OfUse}
 use Rattle.apparmor_variables.specs.inner.CodePieces.{piece_value}
 use Rattle.apparmor_variables.specs.inner.Known.{known_in}
 use Rattle.apparmor_variables.specs.inner.Way.{AreKnown}
-use Rattle.apparmor_variables.proofs.PieceSteps.{no_pieces}
+use Rattle.apparmor_variables.specs.laws.PieceSteps.{no_pieces}
 use Rattle.apparmor_variables.proofs.KnownLists.{are_listed, are_known_more, known_and_one}
 use Rattle.apparmor_variables.proofs.PathSteps.{tells_more}
 use Rattle.apparmor_variables.proofs.lists.make_used.Goals as goal

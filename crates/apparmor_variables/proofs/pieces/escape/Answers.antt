@@ -1,6 +1,6 @@
 use Rattle.std.proofs.Common.{◌≡◌, ◌-◌, ◌≤◌, ◌∷◌, [], length, drop, ◌∙◌, arith}
 use Rattle.apparmor_variables.specs.Pieces.{Text, pieces_behind, pieces, written, escape}
-use Rattle.apparmor_variables.proofs.PieceSteps.{pieces_behind-drop, told}
+use Rattle.apparmor_variables.specs.laws.PieceSteps.{pieces_behind-drop, told}
 use Rattle.apparmor_variables.proofs.pieces.escape.Goals as goal
 
 -- a backslash followed by a byte forms one piece with it

@@ -7,7 +7,7 @@ use Rattle.apparmor_variables.specs.Variables.{piece_texts}
 use Rattle.apparmor_variables.specs.inner.CodePieces.{piece_value}
 use Rattle.apparmor_variables.specs.inner.Known.{known_in}
 use Rattle.apparmor_variables.proofs.PathSteps.{piece_refused}
-use Rattle.apparmor_variables.proofs.PieceSteps.{no_pieces}
+use Rattle.apparmor_variables.specs.laws.PieceSteps.{no_pieces}
 use Rattle.apparmor_variables.proofs.placement.put_in_place.Goals as goal
 
 pub returns-clause-text : goal.returns-clause-text

@@ -2,7 +2,7 @@
 use Rattle.std.proofs.Common.{◌≡◌, ◌-◌, ◌<◌, ◌≤◌, ℕ, Some, slice_get}
 use Rattle.automaton_rows.specs.Automata.{target}
 use Rattle.automaton_rows.specs.Rows.{target_in, IsRowFrom}
-use Rattle.automaton_rows.proofs.Fronts.{IsSoFar}
+use Rattle.automaton_rows.specs.laws.Fronts.{IsSoFar}
 use Rattle.automaton_products.specs.Products.{AreFewPairs, Keeps, next_pair, pairs_of}
 use Rattle.automaton_products.proofs.product_states.add_row.Given as goal
 

@@ -1,4 +1,4 @@
-use Rattle.automaton_search.proofs.Orders.{less_or_same, less_through, never_less}
+use Rattle.automaton_search.specs.laws.Orders.{less_or_same, less_through, never_less}
 use Rattle.automaton_search.proofs.laws.names_are_in_one_order.Goals as goal
 
 pub returns-clause-some : goal.returns-clause-some

@@ -5,7 +5,7 @@ use Rattle.automaton_search.specs.declared.states.States.{States}
 use Rattle.automaton_search.specs.declared.walk.Trail.{Trail}
 use Rattle.automaton_search.specs.Visits.{next_states, start_states}
 use Rattle.automaton_search.specs.inner.Walks.{IsVisited, IsWalkAt, states_of}
-use Rattle.automaton_search.proofs.Lists.{is_empty}
+use Rattle.automaton_search.specs.laws.Lists.{is_empty}
 use Rattle.automaton_search.proofs.ThreeStates.{states}
 use Rattle.automaton_search.proofs.WalkSteps.{first_visit}
 use Rattle.automaton_search.proofs.walk.begin.Goals as goal

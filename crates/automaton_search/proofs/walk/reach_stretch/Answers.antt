@@ -3,7 +3,7 @@ use Rattle.std.proofs.Common.{◌∙◌, ◌<◌, ℕ, sym, subst, arith}
 use Rattle.automaton_search.specs.Order.{place_of}
 use Rattle.automaton_search.specs.Visits.{next_states, start_states, IsSearchFault}
 use Rattle.automaton_search.specs.inner.Walks.{IsWalkAt, states_of}
-use Rattle.automaton_search.proofs.Places.{part, place_after}
+use Rattle.automaton_search.specs.laws.Places.{part, place_after}
 use Rattle.automaton_search.proofs.ThreeStates.{passed_on, search_fault, step_states}
 use Rattle.automaton_search.proofs.WalkSteps.{one_range_more, visited_kept}
 use Rattle.automaton_search.proofs.walk.reach_stretch.Goals as goal

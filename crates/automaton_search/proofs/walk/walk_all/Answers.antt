@@ -1,7 +1,7 @@
 -- The states of a visit are states, and after the last visit the walk is at an end.
 use Rattle.std.proofs.Common.{◌∙◌, ◌<◌, length, sym, arith}
 use Rattle.automaton_search.specs.inner.Walks.{states_of}
-use Rattle.automaton_search.proofs.Lists.{past_last}
+use Rattle.automaton_search.specs.laws.Lists.{past_last}
 use Rattle.automaton_search.proofs.ThreeStates.{states, there}
 use Rattle.automaton_search.proofs.WalkLaws.{at_end}
 use Rattle.automaton_search.proofs.walk.walk_all.Goals as goal

@@ -1,6 +1,6 @@
 use Rattle.std.proofs.Common.{◌+◌, ◌<◌, drop, Some, ap, ◌∙◌, arith}
 use Rattle.std.proofs.lemmas.List.Elements.{All-get_or}
-use Rattle.row_index.proofs.Sizes.{index_most}
+use Rattle.row_index.specs.laws.Sizes.{index_most}
 use Rattle.tree_row.specs.Rows.{row_length}
 use Rattle.row_rule.specs.declared.cell.Cell.{Cell}
 use Rattle.row_rule.specs.declared.view.Pending.{Pending}

@@ -1,5 +1,5 @@
 use Rattle.event_machine.proofs.Runs.{rule_kept}
-use Rattle.event_machine.proofs.Ruled.{row_encodes}
+use Rattle.event_machine.specs.laws.Ruled.{row_encodes}
 use Rattle.event_machine.proofs.laws.runs_keep_rule.Goals as goal
 
 pub returns-clause-rule : goal.returns-clause-rule

@@ -1,4 +1,4 @@
-use Rattle.event_machine.proofs.Ruled.{takes_keep}
+use Rattle.event_machine.specs.laws.Ruled.{takes_keep}
 use Rattle.event_machine.proofs.Runs.{runs_keep}
 use Rattle.event_machine.proofs.laws.steps_keep_rule.Goals as goal
 

@@ -1,6 +1,6 @@
 -- An edge continues the open range, or ends it and opens another. The bytes before it have the open range's target.
 use Rattle.std.proofs.Common.{rules, ◌≡◌, ◌-◌, ◌+◌, None, refl, subst, arith}
-use Rattle.automaton_rows.proofs.Fronts.{none_yet}
+use Rattle.automaton_rows.specs.laws.Fronts.{none_yet}
 use Rattle.glob_automaton.specs.inner.States.{lists_of, IsTargetOf}
 use Rattle.glob_automaton.proofs.RangeSteps.{IsWritten, like_those, one_alike, same_range, one_more, whole_row}
 use Rattle.glob_automaton.proofs.RowSteps.{none_shared}

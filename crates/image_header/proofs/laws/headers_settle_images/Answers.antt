@@ -1,6 +1,6 @@
 use Rattle.std.proofs.Common.{◌++◌, ◌∙◌, inl, inr, length, sym, ⊎_elim}
 use Rattle.image_header.proofs.Fronts.{fault_or_length, one_told_length, whole_has_none}
-use Rattle.tables.proofs.Decisions.{decided_equal}
+use Rattle.tables.specs.laws.Decisions.{decided_equal}
 use Rattle.tables.specs.declared.fault.ImageFault.TheVariants as fault
 use Rattle.image_header.proofs.laws.headers_settle_images.Goals as goal
 

@@ -9,7 +9,7 @@ use Rattle.import_scope.specs.Told.{fault_value}
 use Rattle.import_scope.specs.inner.Outlines.{AskedValue, asked_value, last_state, head_stop, all_asked}
 use Rattle.import_scope.specs.inner.Problems.{FirstProblem}
 use Rattle.import_scope.proofs.Passes.{both_passes}
-use Rattle.import_scope.proofs.Extensions.{AreNamed, last_is_behind, named_last}
+use Rattle.import_scope.specs.laws.Extensions.{AreNamed, last_is_behind, named_last}
 use Rattle.import_scope.proofs.scope.scope_of.Goals as goal
 
 -- the first fault, of what the passes gave

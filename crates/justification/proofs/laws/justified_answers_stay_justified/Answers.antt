@@ -1,4 +1,4 @@
-use Rattle.justification.proofs.Later.{justified_stays, tree_stays}
+use Rattle.justification.specs.laws.Later.{justified_stays, tree_stays}
 use Rattle.justification.proofs.laws.justified_answers_stay_justified.Goals as goal
 
 pub returns-clause-answers : goal.returns-clause-answers

@@ -1,7 +1,7 @@
 use Rattle.std.proofs.Common.{◌≡◌, ◌++◌, [], ◌∷◌, ℕ, List, Some, None, Bool, true, refl, sym, ap, ◌∙◌}
 use Rattle.std.proofs.lemmas.Slice.Eq.{bytes_eq-Decides}
 use Rattle.std.specs.Prelude.{bytes_eq, if◌then◌else◌}
-use Rattle.mediation.proofs.DeedLaws.{after_both}
+use Rattle.mediation.specs.laws.DeedLaws.{after_both}
 use Rattle.mediation.specs.Deeds.{Deed, Policy, after_deed, policy_after, published, removed}
 use Rattle.mediation.proofs.policy_laws.last_change_of_a_name_stands.Goals as goal
 

@@ -1,4 +1,4 @@
-use Rattle.names.proofs.RecordLaws.{hits_made, same_record}
+use Rattle.names.specs.laws.Records.{hits_made, same_record}
 use Rattle.names.proofs.laws.records_are_their_hits.Goals as goal
 
 pub returns-clause-same : goal.returns-clause-same

@@ -1,6 +1,5 @@
-use Rattle.std.proofs.Common.{◌≡◌, false, take, sym, ap, ◌∙◌, inr}
+use Rattle.std.proofs.Common.{◌≡◌, false, take, sym, ap, ◌∙◌, inr, true≢false}
 use Rattle.directory_tree.specs.Components.{is_filled}
-use Rattle.directory_tree.proofs.Basics.{true_is_false}
 use Rattle.path_lookup.proofs.NameParts.{has_component}
 use Rattle.path_lookup.proofs.name.put_component.Goals as goal
 
@@ -14,4 +13,4 @@ returns-then-length-eq0-clause-fault g c = λ front.
     (c.requires.below w before) in
     let empty : is_filled (take c.in_ok-length.length c.component.new.room) ≡ false = ap (λ n. is_filled (take n c.component.new.room))
     c.if-length-eq0.true in
-    true_is_false (sym filled ∙ ap is_filled (got.answer w seen) ∙ empty))
+    true≢false (sym filled ∙ ap is_filled (got.answer w seen) ∙ empty))

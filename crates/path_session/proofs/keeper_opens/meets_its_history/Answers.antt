@@ -1,7 +1,7 @@
 use Rattle.std.proofs.Common.{ap, ◌∙◌, sym, refl}
 use Rattle.std.specs.Prelude.{Ok}
 use Rattle.path_session.proofs.SeenWalks.{tree_at}
-use Rattle.path_session.proofs.KeeperStates.{tree_is}
+use Rattle.path_session.specs.laws.KeeperStates.{tree_is}
 use Rattle.path_session.proofs.keeper_opens.meets_its_history.Goals as goal
 
 pub returns-clause-is_at : goal.returns-clause-is_at

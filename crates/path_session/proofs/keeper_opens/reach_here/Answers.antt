@@ -3,7 +3,7 @@ use Rattle.std.specs.Prelude.{Ok}
 use Rattle.directory_tree.specs.Tree.{Tree}
 use Rattle.mediation.specs.Opens.{reached}
 use Rattle.path_session.proofs.SeenWalks.{tree_at}
-use Rattle.path_session.proofs.KeeperStates.{tree_is, sees}
+use Rattle.path_session.specs.laws.KeeperStates.{tree_is, sees}
 use Rattle.path_session.proofs.keeper_opens.reach_here.Goals as goal
 
 pub unreachable-requires : goal.unreachable-requires

@@ -1,6 +1,6 @@
 use Rattle.std.proofs.Common.{◌≡◌, ℕ, ◌+◌, ◌*◌, ◌%◌, ◌≤◌, length, drop, sym, ap, ◌∙◌, arith}
 use Rattle.row_index.specs.Hashes.{hash_on, home}
-use Rattle.row_index.proofs.Homes.{hash_done, hash_step, masked, wrapped_sum}
+use Rattle.row_index.specs.laws.Homes.{hash_done, hash_step, masked, wrapped_sum}
 use Rattle.row_index.proofs.hash.home.Goals as goal
 
 pub loop-byte-preserved : goal.loop-byte-preserved

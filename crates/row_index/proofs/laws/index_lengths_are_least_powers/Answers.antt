@@ -1,4 +1,4 @@
-use Rattle.row_index.proofs.Sizes.{index_enough, index_least, index_power, index_some}
+use Rattle.row_index.specs.laws.Sizes.{index_enough, index_least, index_power, index_some}
 use Rattle.row_index.proofs.laws.index_lengths_are_least_powers.Goals as goal
 
 pub returns-clause-power : goal.returns-clause-power

@@ -1,4 +1,4 @@
-use Rattle.row_index.proofs.Sizes.{index_is}
+use Rattle.row_index.specs.laws.Sizes.{index_is}
 use Rattle.row_index.proofs.places.index_length.Goals as goal
 
 pub returns-clause-length : goal.returns-clause-length

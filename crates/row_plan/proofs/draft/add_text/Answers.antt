@@ -1,7 +1,7 @@
 use Rattle.std.proofs.Common.{◌≡◌, ℕ, ◌+◌, ◌/◌, ◌<◌, ◌∙◌, length, sym, subst, arith}
 use mathlib.Core.Logic.{inr}
 use Rattle.std.specs.Prelude.{slice_set}
-use Rattle.row_index.proofs.Sizes.{index_most}
+use Rattle.row_index.specs.laws.Sizes.{index_most}
 use Rattle.row_plan.specs.Leaves.{with_words}
 use Rattle.row_plan.specs.inner.Rows.{Drafts}
 use Rattle.tree_row.proofs.PackedWords.{packs}

@@ -1,4 +1,4 @@
-use Rattle.rule_globs.proofs.PlainLaws.{allowed_by_hits}
+use Rattle.rule_globs.specs.laws.PlainLaws.{allowed_by_hits}
 use Rattle.rule_globs.proofs.laws.allowed_alone.Goals as goal
 
 pub returns : goal.returns

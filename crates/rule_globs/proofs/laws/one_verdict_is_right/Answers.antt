@@ -1,5 +1,5 @@
 use Rattle.rule_globs.proofs.OneVerdict.{one_verdict}
-use Rattle.rule_globs.proofs.PlainLaws.{verdict_is_right}
+use Rattle.rule_globs.specs.laws.PlainLaws.{verdict_is_right}
 use Rattle.rule_globs.proofs.laws.one_verdict_is_right.Goals as goal
 
 pub returns-clause-some : goal.returns-clause-some

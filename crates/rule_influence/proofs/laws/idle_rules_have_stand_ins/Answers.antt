@@ -1,4 +1,4 @@
-use Rattle.rule_influence.proofs.IdleStandIns.{idle_stands, none_matter, stand_in_hits}
+use Rattle.rule_influence.specs.laws.IdleStandIns.{idle_stands, none_matter, stand_in_hits}
 use Rattle.rule_influence.proofs.laws.idle_rules_have_stand_ins.Goals as goal
 
 pub returns-clause-stand_in : goal.returns-clause-stand_in

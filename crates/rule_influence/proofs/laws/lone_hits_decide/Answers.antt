@@ -1,4 +1,4 @@
-use Rattle.rule_influence.proofs.HitLaws.{lone_decides}
+use Rattle.rule_influence.specs.laws.HitLaws.{lone_decides}
 use Rattle.rule_influence.proofs.laws.lone_hits_decide.Goals as goal
 
 pub returns : goal.returns

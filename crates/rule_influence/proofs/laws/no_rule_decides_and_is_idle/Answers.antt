@@ -1,5 +1,5 @@
 use Rattle.std.proofs.Common.{arith}
-use Rattle.rule_influence.proofs.HitLaws.{absent_idle}
+use Rattle.rule_influence.specs.laws.HitLaws.{absent_idle}
 use Rattle.rule_influence.proofs.laws.no_rule_decides_and_is_idle.Goals as goal
 
 pub returns-clause-before : goal.returns-clause-before

@@ -1,4 +1,4 @@
-use Rattle.rule_influence.proofs.IdleStandIns.{one_list}
+use Rattle.rule_influence.specs.laws.IdleStandIns.{one_list}
 use Rattle.rule_influence.proofs.laws.one_list_of_stand_ins.Goals as goal
 
 pub returns : goal.returns

@@ -11,7 +11,7 @@ use Rattle.rule_globs.specs.inner.RuleHits.{HitsSome}
 use Rattle.rule_globs.specs.Verdict.{IsRuleAt, IsVerdict}
 use Rattle.rule_profile.specs.declared.profile.Rule.{Rule}
 use Rattle.names.specs.declared.verdict.Verdict.TheVariants.{Denied, NoRule, Allowed}
-use Rattle.names.proofs.PermsLaws.{some_member}
+use Rattle.names.specs.laws.PermissionSets.{some_member}
 use Rattle.rule_judge.proofs.VerdictSteps.{IsQuiet, IsMissingAfter, rule_at, quiet-skip, quiet-allow, missing-skip, missing-allow, denied}
 use Rattle.rule_judge.proofs.VerdictSteps.{at_end-quiet, at_end-missing}
 use Rattle.rule_judge.proofs.judgment.judge_slow.Goals as goal

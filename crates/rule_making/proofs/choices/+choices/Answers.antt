@@ -2,9 +2,9 @@
 use Rattle.std.proofs.Common.{◌≤◌, ◌<◌, sym, ap, ◌∙◌, length, arith}
 use Rattle.std.specs.List.{list_all}
 use Rattle.rule_globs.specs.Tokens.{tokens_of, with_commas}
-use Rattle.rule_writer.proofs.CanonWrites.{items_parts, length-Group, length_item, length_alternative}
+use Rattle.rule_writer.specs.laws.CanonWrites.{items_parts, length-Group, length_item, length_alternative}
 use Rattle.rule_making.specs.Choices.{chooses, all_choose}
-use Rattle.rule_making.proofs.ChoiceLaws.{chooses-Group, no_choice, too_few, by_alternatives}
+use Rattle.rule_making.specs.laws.ChoiceLaws.{chooses-Group, no_choice, too_few, by_alternatives}
 use Rattle.rule_making.proofs.choices.+choices.Goals as goal
 
 pub groups_have_alternatives-chooses-requires : goal.groups_have_alternatives-chooses-requires

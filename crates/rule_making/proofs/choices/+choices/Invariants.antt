@@ -2,7 +2,7 @@
 use Rattle.std.proofs.Common.{◌≡◌, ◌+◌, ◌*◌, drop, length}
 use Rattle.std.specs.List.{list_all}
 use Rattle.rule_globs.specs.Tokens.{tokens, tokens_of, with_commas}
-use Rattle.rule_writer.proofs.CanonWrites.{items_parts}
+use Rattle.rule_writer.specs.laws.CanonWrites.{items_parts}
 use Rattle.rule_making.specs.Choices.{all_choose}
 use Rattle.rule_making.proofs.choices.+choices.Given as goal
 

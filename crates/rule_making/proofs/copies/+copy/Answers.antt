@@ -1,8 +1,8 @@
 -- The calls go down, and a group is its alternatives.
 use Rattle.std.proofs.Common.{sym, ap, ◌∙◌, length, arith}
 use Rattle.rule_globs.specs.Tokens.{tokens, tokens_of, with_commas}
-use Rattle.rule_globs.proofs.TokenItems.{full-Group}
-use Rattle.rule_writer.proofs.CanonWrites.{items_parts, length-Group, length_item, length_alternative}
+use Rattle.rule_globs.specs.laws.TokenItems.{full-Group}
+use Rattle.rule_writer.specs.laws.CanonWrites.{items_parts, length-Group, length_item, length_alternative}
 use Rattle.rule_making.proofs.CopyLaws.{same_group}
 use Rattle.rule_making.proofs.copies.+copy.Goals as goal
 

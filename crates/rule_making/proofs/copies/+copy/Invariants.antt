@@ -2,7 +2,7 @@
 use Rattle.std.proofs.Common.{◌≡◌, ◌++◌, ◌+◌, ◌*◌, drop, length, IsTrue}
 use Rattle.std.specs.List.{list_all}
 use Rattle.rule_globs.specs.Tokens.{tokens, tokens_of, all_full, with_commas}
-use Rattle.rule_writer.proofs.CanonWrites.{items_parts}
+use Rattle.rule_writer.specs.laws.CanonWrites.{items_parts}
 use Rattle.rule_making.proofs.copies.+copy.Given as goal
 
 abbrev pub invariant-put_copies-loop-item : goal.invariant-put_copies-loop-item

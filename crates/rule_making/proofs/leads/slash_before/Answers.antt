@@ -1,7 +1,7 @@
 -- A slash, the group without slashes, and what follows it.
 use Rattle.std.proofs.Common.{◌++◌, ◌∷◌, [], ap, ◌∙◌, append_assoc}
 use Rattle.rule_globs.specs.Tokens.{byte, opening, closing, with_commas, tokens_of}
-use Rattle.rule_writer.proofs.CanonWrites.{items_parts}
+use Rattle.rule_writer.specs.laws.CanonWrites.{items_parts}
 use Rattle.rule_making.proofs.GroupLaws.{before_tokens, before_full}
 use Rattle.rule_making.proofs.leads.slash_before.Goals as goal
 

@@ -3,7 +3,7 @@ use Rattle.std.proofs.Common.{◌≡◌, ◌+◌, drop, Some, None, sym, ap, ◌
 use Rattle.std.proofs.Math.ListN.{drop_of_length-le}
 use Rattle.std.specs.Prelude.{option_and_then}
 use Rattle.rule_globs.specs.Tokens.{tokens, tokens_of, opening, closing, with_commas}
-use Rattle.rule_writer.proofs.CanonWrites.{length-Group, length_item, length_alternative}
+use Rattle.rule_writer.specs.laws.CanonWrites.{length-Group, length_item, length_alternative}
 use Rattle.rule_making.specs.inner.TokenTests.{step, walk}
 use Rattle.rule_making.proofs.Walks.{walk_rest, parts_of, others_of, all_parts, items_step, rest_step, group_step, length_other}
 use Rattle.rule_making.proofs.path_tests.+walk.Goals as goal

@@ -1,7 +1,7 @@
 -- The last item's last token is that of all items.
 use Rattle.std.proofs.Common.{sym, ◌∙◌}
 use Rattle.rule_profile.specs.Readable.{is_run}
-use Rattle.rule_making.proofs.Ends.{ends_as_last}
+use Rattle.rule_making.specs.laws.Ends.{ends_as_last}
 use Rattle.rule_making.proofs.shapes.ends_with_run.Goals as goal
 
 pub returns-in-len1-up : goal.returns-in-len1-up

@@ -2,7 +2,7 @@
 use Rattle.std.proofs.Common.{◌<◌, length, sym, ◌∙◌, arith}
 use Rattle.std.proofs.lemmas.Bool.Decides.{nat_tests}
 use Rattle.rule_globs.specs.Tokens.{tokens_of}
-use Rattle.rule_making.proofs.Ends.{begins_as_items}
+use Rattle.rule_making.specs.laws.Ends.{begins_as_items}
 use Rattle.rule_making.proofs.shapes.slash_stands_first.Goals as goal
 
 pub returns-else-is_empty : goal.returns-else-is_empty

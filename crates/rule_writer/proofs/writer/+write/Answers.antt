@@ -4,7 +4,7 @@ use Rattle.std.specs.List.{flat_map}
 use Rattle.std.proofs.lemmas.Result.{IfOk-weaker}
 use Rattle.rule_writer.specs.Canonical.{token_text}
 use Rattle.rule_globs.specs.Tokens.{tokens, tokens_of, with_commas}
-use Rattle.rule_writer.proofs.CanonWrites.{items_parts, group_written, length-Group, length_item, length_alternative}
+use Rattle.rule_writer.specs.laws.CanonWrites.{items_parts, group_written, length-Group, length_item, length_alternative}
 use Rattle.rule_writer.proofs.writer.+write.Goals as goal
 
 pub put_items-put_item-requires : goal.put_items-put_item-requires

@@ -3,7 +3,7 @@ use Rattle.std.proofs.Common.{◌≡◌, ◌++◌, ◌+◌, ◌*◌, drop, lengt
 use Rattle.std.specs.List.{flat_map}
 use Rattle.rule_writer.specs.Canonical.{token_text}
 use Rattle.rule_globs.specs.Tokens.{tokens, tokens_of, with_commas}
-use Rattle.rule_writer.proofs.CanonWrites.{parts_text, items_parts}
+use Rattle.rule_writer.specs.laws.CanonWrites.{parts_text, items_parts}
 use Rattle.rule_writer.proofs.writer.+write.Given as goal
 
 abbrev pub invariant-put_items-loop-item : goal.invariant-put_items-loop-item

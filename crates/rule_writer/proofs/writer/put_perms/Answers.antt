@@ -1,6 +1,6 @@
 use Rattle.std.proofs.Common.{sym, ap, ◌∙◌, ◌++◌, ◌∷◌, []}
 use Rattle.names.specs.Permissions.{all_permissions, has}
-use Rattle.rule_writer.proofs.CanonWrites.{letter_added, no_letter_added}
+use Rattle.rule_writer.specs.laws.CanonWrites.{letter_added, no_letter_added}
 use Rattle.rule_writer.proofs.writer.put_perms.Goals.{then-contains+in_ok-put, else-contains}
 use Rattle.rule_writer.proofs.writer.put_perms.Goals as goal
 

@@ -1,6 +1,6 @@
 -- A byte leads by its cell, by a default to another state and on, or the state stays.
 use Rattle.std.proofs.Common.{rules, ◌<◌, ◌∙◌, get_or, arith}
-use Rattle.table_verifier.proofs.StepsOfTables.{look_ups_next, state_next}
+use Rattle.table_verifier.specs.laws.StepsOfTables.{look_ups_next, state_next}
 use Rattle.table_verifier.proofs.byte_loop.leave.Goals as goal
 
 pub returns-in-Some-clause-left : goal.returns-in-Some-clause-left

@@ -1,7 +1,7 @@
 -- The next byte's look-ups are among those of all bytes.
 use Rattle.std.proofs.Common.{◌+◌, ap, get_or, arith}
 use Rattle.tables.specs.Tables.{look_ups}
-use Rattle.table_verifier.proofs.StepsOfTables.{look_ups_next, look_ups_of_part}
+use Rattle.table_verifier.specs.laws.StepsOfTables.{look_ups_next, look_ups_of_part}
 use Rattle.table_verifier.proofs.byte_loop.walk.Goals as goal
 
 pub leave-left-requires-clause-look_ups : goal.leave-left-requires-clause-look_ups

@@ -1,7 +1,7 @@
 use Rattle.std.proofs.Common.{◌≡◌, Err, inr, rules}
 use Rattle.trace_commands.specs.Tables.{IsCheckOutput}
 use Rattle.trace_report.specs.Fault.{fault_of_image}
-use Rattle.trace_commands.proofs.OneOutput.{told_fault, image_memory}
+use Rattle.trace_commands.specs.laws.OneOutput.{told_fault, image_memory}
 use Rattle.trace_commands.proofs.check_command.counts_of_image.Goals as goal
 
 pub returns-in_err-verified-clause-output : goal.returns-in_err-verified-clause-output

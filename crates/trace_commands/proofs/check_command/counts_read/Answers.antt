@@ -1,7 +1,7 @@
 use Rattle.std.proofs.Common.{◌≡◌, Err, inr, rules}
 use Rattle.trace_commands.specs.Tables.{IsCheckOutput}
 use Rattle.trace_commands.proofs.ImageRead.{image_unread}
-use Rattle.trace_commands.proofs.OneOutput.{check_arguments}
+use Rattle.trace_commands.specs.laws.OneOutput.{check_arguments}
 use Rattle.trace_commands.proofs.check_command.counts_read.Goals as goal
 
 pub returns-in_err-image-clause-output : goal.returns-in_err-image-clause-output

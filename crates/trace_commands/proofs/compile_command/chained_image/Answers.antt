@@ -1,7 +1,7 @@
 use Rattle.std.proofs.Common.{inr, refl}
 use Rattle.tables.specs.Tables.{table_value}
 use Rattle.tables.specs.declared.header.Version.TheVariants.{Second}
-use Rattle.trace_commands.proofs.OneOutput.{second_asked}
+use Rattle.trace_commands.specs.laws.OneOutput.{second_asked}
 use Rattle.trace_commands.proofs.compile_command.chained_image.Goals as goal
 
 pub returns-in-Ok : goal.returns-in-Ok

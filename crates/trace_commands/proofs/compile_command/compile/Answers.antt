@@ -1,7 +1,7 @@
 use Rattle.trace_report.specs.Output.{whole_answer}
 use Rattle.trace_commands.specs.Tables.{IsCompileOutput}
-use Rattle.trace_report.proofs.Endings.{one_told}
-use Rattle.trace_commands.proofs.OneOutput.{compile_arguments, one_given}
+use Rattle.trace_report.specs.laws.Endings.{one_told}
+use Rattle.trace_commands.specs.laws.OneOutput.{compile_arguments, one_given}
 use Rattle.trace_commands.proofs.compile_command.compile.Goals as goal
 
 pub returns-in-Ok : goal.returns-in-Ok

@@ -1,6 +1,6 @@
 use Rattle.std.proofs.Common.{◌≡◌, Err, rules}
-use Rattle.trace_report.proofs.Endings.{text_of}
-use Rattle.trace_commands.proofs.OneOutput.{compile_arguments, unread_one}
+use Rattle.trace_report.specs.laws.Endings.{text_of}
+use Rattle.trace_commands.specs.laws.OneOutput.{compile_arguments, unread_one}
 use Rattle.trace_commands.proofs.compile_command.image_read.Goals as goal
 
 pub returns-in_err-text : goal.returns-in_err-text

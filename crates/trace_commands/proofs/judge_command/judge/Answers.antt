@@ -1,4 +1,4 @@
-use Rattle.trace_report.proofs.Endings.{ends_told}
+use Rattle.trace_report.specs.laws.Endings.{ends_told}
 use Rattle.trace_commands.proofs.judge_command.judge.Goals as goal
 
 pub returns-in-Err-clause-output : goal.returns-in-Err-clause-output

@@ -1,5 +1,5 @@
 use Rattle.std.proofs.Common.{◌≡◌, Err, rules}
-use Rattle.trace_report.proofs.Endings.{text_of}
+use Rattle.trace_report.specs.laws.Endings.{text_of}
 use Rattle.trace_commands.proofs.Arguments.{asked_in_vain, unread}
 use Rattle.trace_report.specs.Fault.{IsFaultOf}
 use Rattle.trace_report.specs.declared.format.Format.{Format}

@@ -2,7 +2,7 @@ use Rattle.std.proofs.Common.{◌≡◌, ap, Err, inl, inr, rules}
 use Rattle.trace_commands.specs.Tables.{IsMatchedOutput}
 use Rattle.trace_report.specs.Output.{whole_answer}
 use Rattle.trace_report.specs.Fault.{fault_of_image}
-use Rattle.trace_commands.proofs.OneOutput.{told_fault, image_memory}
+use Rattle.trace_commands.specs.laws.OneOutput.{told_fault, image_memory}
 use Rattle.trace_commands.proofs.match_command.match_image.Goals as goal
 
 pub returns-in_err-verified-clause-output : goal.returns-in_err-verified-clause-output

@@ -1,4 +1,4 @@
-use Rattle.trace_report.proofs.Endings.{one_told}
+use Rattle.trace_report.specs.laws.Endings.{one_told}
 use Rattle.trace_commands.proofs.match_command.match_name.Goals as goal
 
 pub returns-in-Err-clause-output : goal.returns-in-Err-clause-output

@@ -1,8 +1,8 @@
 use Rattle.std.proofs.Common.{◌≡◌, Err, rules}
-use Rattle.trace_report.proofs.Endings.{text_of}
+use Rattle.trace_report.specs.laws.Endings.{text_of}
 use Rattle.trace_commands.specs.Tables.{IsMatchOutput}
 use Rattle.trace_commands.proofs.ImageRead.{image_unread, reads_nothing}
-use Rattle.trace_commands.proofs.OneOutput.{match_answer, match_arguments, match_in_vain, match_refused}
+use Rattle.trace_commands.specs.laws.OneOutput.{match_answer, match_arguments, match_in_vain, match_refused}
 use Rattle.trace_commands.proofs.match_command.match_read.Goals as goal
 
 pub returns-in_err-ask-clause-output : goal.returns-in_err-ask-clause-output

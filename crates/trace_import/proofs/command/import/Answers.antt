@@ -1,4 +1,4 @@
-use Rattle.trace_report.proofs.Endings.{text_of}
+use Rattle.trace_report.specs.laws.Endings.{text_of}
 use Rattle.trace_import.proofs.Endings.{unread}
 use Rattle.trace_import.proofs.command.import.Goals as goal
 

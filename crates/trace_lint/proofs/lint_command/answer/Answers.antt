@@ -1,7 +1,7 @@
 -- The text wasn't read.
 use Rattle.trace_lint.specs.LintOutput.{IsLintOutput}
 use Rattle.trace_lint.proofs.Written.{passed_on, unread}
-use Rattle.trace_report.proofs.Endings.{text_of}
+use Rattle.trace_report.specs.laws.Endings.{text_of}
 use Rattle.trace_lint.proofs.lint_command.answer.Goals as goal
 
 pub returns-in_err-text : goal.returns-in_err-text

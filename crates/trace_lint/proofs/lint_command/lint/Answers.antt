@@ -1,7 +1,7 @@
 -- The lines are written, or a fault is reported.
 use Rattle.std.proofs.Common.{◌∙◌, ◌==◌, ap, not}
 use Rattle.trace_lint.proofs.Written.{answered}
-use Rattle.trace_report.proofs.Endings.{answered_told}
+use Rattle.trace_report.specs.laws.Endings.{answered_told}
 use Rattle.trace_lint.proofs.lint_command.lint.Goals as goal
 
 pub returns-in-Ok : goal.returns-in-Ok

@@ -1,6 +1,6 @@
 -- Memory was refused before asking, or the import is as it was asked for.
 use Rattle.std.proofs.Common.{rules, refl, inl, inr}
-use Rattle.trace_report.proofs.Endings.{keeps, text_of}
+use Rattle.trace_report.specs.laws.Endings.{keeps, text_of}
 use Rattle.trace_program.proofs.import.import.Goals as goal
 
 pub returns-in_default : goal.returns-in_default

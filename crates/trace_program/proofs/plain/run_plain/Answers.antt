@@ -2,7 +2,7 @@ use Rattle.std.proofs.Common.{subst}
 use Rattle.mediation.specs.History.{History}
 use Rattle.trace_script.specs.RunOutput.{ScriptEndsOver}
 use Rattle.trace_report.specs.Streams.{streams}
-use Rattle.trace_report.proofs.Endings.{text_of}
+use Rattle.trace_report.specs.laws.Endings.{text_of}
 use Rattle.trace_program.proofs.Unanswered.{nothing_answered}
 use Rattle.trace_program.proofs.plain.run_plain.Goals as goal
 

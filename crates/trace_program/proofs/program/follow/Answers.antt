@@ -1,5 +1,5 @@
 -- Each command ends as its function says.
-use Rattle.trace_report.proofs.Endings.{text_of}
+use Rattle.trace_report.specs.laws.Endings.{text_of}
 use Rattle.trace_program.proofs.program.follow.Goals as goal
 
 pub returns-in-Name-clause-output : goal.returns-in-Name-clause-output

@@ -1,6 +1,6 @@
 -- Both texts are those of their names.
 use Rattle.std.proofs.Common.{ℕ, List, Option, refl, subst}
-use Rattle.trace_report.proofs.Endings.{text_of}
+use Rattle.trace_report.specs.laws.Endings.{text_of}
 use Rattle.trace_report.specs.Streams.{IsTextOf}
 use Rattle.trace_program.proofs.questions.diff.Goals as goal
 

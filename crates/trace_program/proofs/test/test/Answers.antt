@@ -1,7 +1,7 @@
 use Rattle.std.proofs.Common.{ℕ, List, subst}
 use Rattle.mediation.specs.History.{History}
 use Rattle.trace_report.specs.Streams.{IsTextOf, streams}
-use Rattle.trace_report.proofs.Endings.{text_of}
+use Rattle.trace_report.specs.laws.Endings.{text_of}
 use Rattle.trace_test.specs.TestOutput.{TestEnds}
 use Rattle.trace_program.proofs.Unanswered.{nothing_tested}
 use Rattle.trace_program.proofs.test.test.Goals as goal

@@ -2,7 +2,7 @@
 use Rattle.std.specs.Prelude.{option_map}
 use Rattle.trace_questions.specs.Differences.{IsDiffOutputFor, below_asked}
 use Rattle.trace_questions.specs.declared.sides.SideFault.TheVariants.{Neither}
-use Rattle.trace_report.proofs.Endings.{text_of}
+use Rattle.trace_report.specs.laws.Endings.{text_of}
 use Rattle.trace_questions.proofs.DiffAnswers.{Asked, answered_on, fault_passed_on, unasked, unread}
 use Rattle.trace_questions.proofs.difference.answer.Goals as goal
 

@@ -5,7 +5,7 @@ use Rattle.trace_questions.specs.Search.{IsSearchOutput, IsSearchOutputOf}
 use Rattle.trace_questions.specs.inner.Questions.{IsAnswered}
 use Rattle.trace_questions.proofs.Arguments.{asked_in_vain, text_answered, text_unread}
 use Rattle.trace_questions.proofs.Refused.{passed_on}
-use Rattle.trace_report.proofs.Endings.{text_of}
+use Rattle.trace_report.specs.laws.Endings.{text_of}
 use Rattle.trace_questions.proofs.search_command.answer.Goals as goal
 
 pub returns-in_err-asked-clause-output : goal.returns-in_err-asked-clause-output

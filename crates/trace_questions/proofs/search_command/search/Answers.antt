@@ -2,7 +2,7 @@
 use Rattle.trace_questions.specs.Search.{IsSearchOutput}
 use Rattle.trace_questions.proofs.Arguments.{good_by_answer}
 use Rattle.trace_questions.proofs.Endings.{answered}
-use Rattle.trace_report.proofs.Endings.{answered_told}
+use Rattle.trace_report.specs.laws.Endings.{answered_told}
 use Rattle.trace_questions.proofs.search_command.search.Goals as goal
 
 pub returns-in-Ok-clause-output : goal.returns-in-Ok-clause-output

@@ -1,5 +1,5 @@
 use Rattle.std.proofs.Common.{◌≡◌, ◌-◌, ℕ, List, ◌++◌, Bor, length, take, drop, ap}
-use Rattle.trace_report.proofs.Fronts.{front_moved, Appends-more, Appends-kept}
+use Rattle.trace_report.specs.laws.Fronts.{front_moved, Appends-more, Appends-kept}
 use Rattle.trace_report.proofs.reports.write_through.Goals as goal
 use Rattle.trace_report.proofs.reports.write_through.Goals.{in-Ok, in-Err+else-ne}
 

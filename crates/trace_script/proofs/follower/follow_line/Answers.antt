@@ -1,5 +1,5 @@
 use Rattle.std.proofs.Common.{◌≡◌, [], true, false, Err, sym, subst, rules}
-use Rattle.trace_report.proofs.Endings.{appends_nothing}
+use Rattle.trace_report.specs.laws.Endings.{appends_nothing}
 use Rattle.trace_script.specs.declared.section.Section.{Section}
 use Rattle.trace_script.specs.Engine.{section_value}
 use Rattle.trace_script.specs.Script.{is_end}

@@ -1,5 +1,5 @@
 use mathlib.Core.Logic.{inl, inr}
-use Rattle.tree_row.proofs.Decisions.{world_of, seen_of}
+use Rattle.tree_row.specs.laws.Decisions.{world_of, seen_of}
 use Rattle.tree_row.proofs.laws.torn_rows_encode_no_tree.Goals as goal
 
 pub returns : goal.returns

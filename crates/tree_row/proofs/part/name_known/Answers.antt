@@ -4,7 +4,7 @@ use Rattle.directory_tree.specs.Apply.{and_then}
 use Rattle.directory_tree.specs.Name.{judged_name}
 use Rattle.directory_tree.specs.Walk.{walk}
 use Rattle.tree_row.specs.declared.part.PartCells.{PartCells}
-use Rattle.tree_row.proofs.Decisions.{found_in, told_in, stops_in}
+use Rattle.tree_row.specs.laws.Decisions.{found_in, told_in, stops_in}
 use Rattle.tree_row.proofs.part.name_known.Goals as goal
 
 pub returns-in-Ok-clause-found : goal.returns-in-Ok-clause-found

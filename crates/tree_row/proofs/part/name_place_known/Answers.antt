@@ -2,7 +2,7 @@ use Rattle.std.proofs.Common.{ap, ◌∙◌, take}
 use Rattle.std.specs.Prelude.{Ok}
 use Rattle.directory_tree.specs.Place.{named_place}
 use Rattle.tree_row.specs.declared.part.PartCells.{PartCells}
-use Rattle.tree_row.proofs.Decisions.{told_in, stops_in}
+use Rattle.tree_row.specs.laws.Decisions.{told_in, stops_in}
 use Rattle.tree_row.proofs.part.name_place_known.Goals as goal
 
 pub returns-in-Ok-clause-name : goal.returns-in-Ok-clause-name

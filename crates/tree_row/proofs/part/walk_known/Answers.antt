@@ -1,7 +1,7 @@
 use Rattle.std.proofs.Common.{ap, ◌∙◌}
 use Rattle.directory_tree.specs.Walk.{walk}
 use Rattle.tree_row.specs.declared.part.PartCells.{PartCells}
-use Rattle.tree_row.proofs.Decisions.{found_in, stops_in}
+use Rattle.tree_row.specs.laws.Decisions.{found_in, stops_in}
 use Rattle.tree_row.proofs.part.walk_known.Goals as goal
 
 pub returns-in-Ok-clause-found : goal.returns-in-Ok-clause-found

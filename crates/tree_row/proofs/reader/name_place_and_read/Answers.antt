@@ -4,7 +4,7 @@ use Rattle.directory_tree.specs.Place.{named_place}
 use Rattle.tree_row.specs.declared.reader.ReadCells.{ReadCells}
 use Rattle.tree_row.specs.declared.stop.Stop.{Stop}
 use Rattle.tree_row.specs.ReadWords.{StopsReading}
-use Rattle.tree_row.proofs.Decisions.{Part, told_both, stops_both, taken_is}
+use Rattle.tree_row.specs.laws.Decisions.{Part, told_both, stops_both, taken_is}
 use Rattle.tree_row.proofs.reader.name_place_and_read.Goals as goal
 
 pub returns-in-Ok-clause-name : goal.returns-in-Ok-clause-name

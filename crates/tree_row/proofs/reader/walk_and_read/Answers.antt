@@ -5,7 +5,7 @@ use Rattle.tree_row.specs.declared.look.RowEntry.{RowEntry}
 use Rattle.tree_row.specs.declared.reader.ReadCells.{ReadCells}
 use Rattle.tree_row.specs.declared.stop.Stop.{Stop}
 use Rattle.tree_row.specs.ReadWords.{StopsReading}
-use Rattle.tree_row.proofs.Decisions.{Part, found_both, stops_both, taken_is}
+use Rattle.tree_row.specs.laws.Decisions.{Part, found_both, stops_both, taken_is}
 use Rattle.tree_row.proofs.reader.walk_and_read.Goals as goal
 
 pub returns-in-Ok-clause-found : goal.returns-in-Ok-clause-found

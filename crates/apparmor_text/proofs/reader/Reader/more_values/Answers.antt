@@ -4,7 +4,7 @@ use Rattle.apparmor_words.specs.Assignments.{line_ends}
 use Rattle.apparmor_text.specs.Assignments.{separators_part}
 use Rattle.apparmor_text.specs.Readings.{Reading}
 use Rattle.apparmor_text.specs.WordParts.{word_part}
-use Rattle.apparmor_words.proofs.Steps.{ok_is}
+use Rattle.apparmor_words.specs.laws.Steps.{ok_is}
 use Rattle.apparmor_text.proofs.ValueLoop.{value_shorter, values_end, values_more}
 use Rattle.apparmor_text.proofs.reader.Reader.more_values.Goals as goal
 

@@ -4,7 +4,7 @@ use Rattle.automaton_rows.specs.Automata.{Automaton, target}
 use Rattle.automaton_rows.specs.declared.range.TargetRange.{TargetRange}
 use Rattle.automaton_rows.specs.Rows.{AreRows, IsRowFrom, rows_of, target_in}
 use Rattle.automaton_rows.proofs.RowReads.{begins_within}
-use Rattle.automaton_rows.proofs.RowLists.{target_at, rows_long}
+use Rattle.automaton_rows.specs.laws.RowLists.{target_at, rows_long}
 use Rattle.automaton_rows.proofs.dfa.Dfa.row.Goals as goal
 
 module _ (ranges : List TargetRange) (firsts : List ℕ) (a : Automaton) (is : a.rows ≡ rows_of ranges firsts) (rows : AreRows ranges firsts)

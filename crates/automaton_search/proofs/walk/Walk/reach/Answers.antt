@@ -4,7 +4,7 @@ use Rattle.std.proofs.lemmas.List.Quantifiers.{position-Some}
 use Rattle.std.proofs.lemmas.Option.{slice_get-get_or}
 use Rattle.automaton_search.specs.contracts.states.StatesPartialEq.TheImpl as states_impl
 use Rattle.automaton_search.specs.declared.states.States.{States}
-use Rattle.automaton_search.proofs.Lists.{all_distinct, not_there}
+use Rattle.automaton_search.specs.laws.Lists.{all_distinct, not_there}
 use Rattle.automaton_search.proofs.walk.Walk.reach.Goals as goal
 
 pub returns-in-Some-clause-visited : goal.returns-in-Some-clause-visited

@@ -1,5 +1,5 @@
 use Rattle.std.proofs.Common.{ap, arith}
-use Rattle.row_index.proofs.Sizes.{index_most}
+use Rattle.row_index.specs.laws.Sizes.{index_most}
 use Rattle.dentry_cache.specs.Models.{Held}
 use Rattle.dentry_cache.proofs.kept_row.KeptRow.read.Goals as goal
 

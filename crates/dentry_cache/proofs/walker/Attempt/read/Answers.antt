@@ -1,5 +1,5 @@
 use Rattle.std.proofs.Common.{◌<◌, ℕ, sym, ap, ◌∙◌, subst, arith}
-use Rattle.row_index.proofs.Sizes.{index_most}
+use Rattle.row_index.specs.laws.Sizes.{index_most}
 use Rattle.tree_row.specs.Rows.{row_length}
 use Rattle.dentry_cache.specs.Walks.{Walk}
 use Rattle.dentry_cache.proofs.walker.Attempt.read.Goals as goal

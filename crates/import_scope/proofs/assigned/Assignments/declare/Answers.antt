@@ -6,7 +6,7 @@ use Rattle.std.specs.Ordering.{nat_cmp}
 use Rattle.apparmor_variables.specs.Pieces.{Text}
 use Rattle.apparmor_variables.specs.Variables.{Variable}
 use Rattle.apparmor_variables.specs.inner.Known.{place_of}
-use Rattle.names.proofs.ByteKeys.{updates_bytes}
+use Rattle.names.specs.laws.ByteKeys.{updates_bytes}
 use Rattle.import_scope.specs.Scopes.{is_declared}
 use Rattle.import_scope.proofs.VariablePlaces.{place_of_one_more}
 use Rattle.import_scope.proofs.assigned.Assignments.declare.Goals as goal

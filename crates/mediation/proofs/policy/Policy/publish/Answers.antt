@@ -2,7 +2,7 @@ use Rattle.std.proofs.Common.{None, ◌≡◌, ◌∙◌, ◌++◌, arith, ap, s
 use Rattle.std.proofs.lemmas.List.{length-map, map-append}
 use Rattle.mediation.specs.Deeds.{after_deeds, policy_after}
 use Rattle.mediation.specs.PolicyChanges.{deed_of}
-use Rattle.mediation.proofs.DeedLaws.{after_both}
+use Rattle.mediation.specs.laws.DeedLaws.{after_both}
 use Rattle.mediation.proofs.policy.Policy.publish.Goals as goal
 
 pub invariant_of-self : goal.invariant_of-self

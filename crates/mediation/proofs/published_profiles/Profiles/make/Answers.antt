@@ -4,7 +4,7 @@ use Rattle.std.specs.Option.{option_map}
 use Rattle.mediation.specs.Deeds.{after_deed}
 use Rattle.mediation.specs.PolicyChanges.{deed_of, judge_shared}
 use Rattle.mediation.specs.Profiles.{judge_of}
-use Rattle.names.proofs.ByteKeys.{updates_bytes}
+use Rattle.names.specs.laws.ByteKeys.{updates_bytes}
 use Rattle.mediation.specs.inner.Profiles.{policy_in}
 use Rattle.mediation.proofs.MapSteps.{mapped_if}
 use Rattle.mediation.proofs.published_profiles.Profiles.make.Goals as goal

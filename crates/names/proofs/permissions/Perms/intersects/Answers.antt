@@ -4,7 +4,7 @@ use Rattle.std.specs.List.{list_any}
 use Rattle.std.proofs.lemmas.Iterator.{YieldsList-from_slice}
 use Rattle.std.proofs.lemmas.Iterator.Search.{any_from_yields_List}
 use Rattle.names.specs.Permissions.{has, all_permissions}
-use Rattle.names.proofs.PermsLaws.{shares_by_any}
+use Rattle.names.specs.laws.PermissionSets.{shares_by_any}
 use Rattle.names.proofs.permissions.Perms.intersects.Goals as goal
 
 pub returns : goal.returns

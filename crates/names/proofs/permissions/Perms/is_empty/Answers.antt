@@ -5,7 +5,7 @@ use Rattle.std.proofs.lemmas.Bool.{not-true, not_from_false}
 use Rattle.std.proofs.lemmas.Iterator.{YieldsList-from_slice}
 use Rattle.std.proofs.lemmas.Iterator.Search.{all_from_yields_List}
 use Rattle.names.specs.Permissions.{all_permissions, has}
-use Rattle.names.proofs.PermsLaws.{all_pass, each_passes}
+use Rattle.names.specs.laws.PermissionSets.{all_pass, each_passes}
 use Rattle.names.proofs.permissions.Perms.is_empty.Goals as goal
 
 pub returns : goal.returns

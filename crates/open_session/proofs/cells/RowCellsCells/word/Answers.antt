@@ -1,5 +1,5 @@
 use Rattle.std.proofs.Common.{◌≤◌, length, take, drop, Some, sym, ◌∙◌, subst, arith}
-use Rattle.tree_row.proofs.TakenWords.{none_of}
+use Rattle.tree_row.specs.laws.TakenWords.{none_of}
 use Rattle.open_session.specs.declared.outcome.Lack.TheVariants as lack
 use Rattle.open_session.specs.Words.{ReadsOn}
 use Rattle.open_session.specs.inner.ReadCells.{IsHonest}

@@ -4,7 +4,7 @@ use Rattle.std.specs.Option.{unwrap_or}
 use mathlib.Core.List.{IsPrefix}
 use Rattle.dentry_cache.specs.Walks.{Walk}
 use Rattle.directory_tree.specs.declared.change.Change.{Change}
-use Rattle.profile_registry.proofs.Prefixes.{prefix_self}
+use Rattle.profile_registry.specs.laws.Prefixes.{prefix_self}
 use Rattle.path_session.specs.inner.Knowledge.{no_walk}
 use Rattle.path_session.proofs.KeptRight.{all_later}
 use Rattle.path_session.proofs.knowledge.Knowledge.meet.Goals as goal

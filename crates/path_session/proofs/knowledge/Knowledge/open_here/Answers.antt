@@ -5,7 +5,7 @@ use Rattle.dentry_cache.specs.Models.{Held}
 use Rattle.directory_tree.specs.declared.change.Change.{Change}
 use Rattle.directory_tree.specs.Plain.{tree_of}
 use Rattle.mediation.specs.Opens.{reached}
-use Rattle.profile_registry.proofs.Prefixes.{prefix_self}
+use Rattle.profile_registry.specs.laws.Prefixes.{prefix_self}
 use Rattle.path_session.specs.inner.Knowledge.{no_walk, asked_by}
 use Rattle.kept_verdicts.specs.KeptFiles.{kept_of}
 use Rattle.path_session.specs.KeeperStates.{plain_of}

@@ -1,7 +1,7 @@
 use Rattle.std.proofs.Common.{◌∙◌, sym, ap, subst, rules}
 use Rattle.std.specs.Prelude.{ℕ, Option, Some, nat_eq}
 use Rattle.std.specs.Option.{option_eq}
-use Rattle.profile_registry.proofs.Prefixes.{prefix_self}
+use Rattle.profile_registry.specs.laws.Prefixes.{prefix_self}
 use Rattle.path_session.specs.inner.Shares.{IsInStep}
 use Rattle.path_session.proofs.KeptRight.{all_later}
 use Rattle.path_session.proofs.SharesKept.{same_step}

@@ -4,7 +4,7 @@ use Rattle.std.specs.Option.{unwrap_or}
 use mathlib.Core.List.{IsPrefix}
 use Rattle.dentry_cache.specs.Walks.{Walk}
 use Rattle.directory_tree.specs.declared.change.Change.{Change}
-use Rattle.profile_registry.proofs.Prefixes.{prefix_self}
+use Rattle.profile_registry.specs.laws.Prefixes.{prefix_self}
 use Rattle.path_session.specs.inner.Knowledge.{no_walk, asked_by}
 use Rattle.row_rule.specs.declared.view.WalkerView.{WalkerView}
 use Rattle.verdict_cache.specs.Questions.{Kept}

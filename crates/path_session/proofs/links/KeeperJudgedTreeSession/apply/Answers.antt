@@ -1,4 +1,4 @@
-use Rattle.path_session.proofs.KeeperStates.{accepted_where_ok, refused_where_err}
+use Rattle.path_session.specs.laws.KeeperStates.{accepted_where_ok, refused_where_err}
 use Rattle.path_session.proofs.links.KeeperJudgedTreeSession.apply.Goals as goal
 
 pub returns-clause-ok : goal.returns-clause-ok

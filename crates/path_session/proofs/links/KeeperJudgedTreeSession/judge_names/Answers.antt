@@ -3,7 +3,7 @@ use Rattle.directory_tree.specs.Place.{named_place}
 use Rattle.directory_tree.specs.Tree.{Tree}
 use Rattle.mediation.specs.Profiles.{judge_of}
 use Rattle.mediation.specs.Links.{judged_by_name}
-use Rattle.path_session.proofs.KeeperStates.{tree_is, sees}
+use Rattle.path_session.specs.laws.KeeperStates.{tree_is, sees}
 use Rattle.path_session.proofs.links.KeeperJudgedTreeSession.judge_names.Goals as goal
 
 pub unreachable-requires : goal.unreachable-requires

@@ -1,4 +1,4 @@
-use Rattle.path_session.proofs.KeeperStates.{would_where_ok, would_not_where_err}
+use Rattle.path_session.specs.laws.KeeperStates.{would_where_ok, would_not_where_err}
 use Rattle.path_session.proofs.links.KeeperJudgedTreeSession.test.Goals as goal
 
 pub returns-clause-ok : goal.returns-clause-ok

@@ -1,5 +1,5 @@
 use Rattle.std.proofs.Common.{Some, refl}
-use Rattle.names.proofs.ByteKeys.{updates_bytes}
+use Rattle.names.specs.laws.ByteKeys.{updates_bytes}
 use Rattle.plain_tree.proofs.directory.Directory.put.Goals as goal
 
 pub returns-in-Ok-clause-ok : goal.returns-in-Ok-clause-ok

@@ -1,5 +1,5 @@
 use Rattle.std.proofs.Common.{Some, refl}
-use Rattle.names.proofs.ByteKeys.{updates_bytes}
+use Rattle.names.specs.laws.ByteKeys.{updates_bytes}
 use Rattle.plain_tree.proofs.directory.Directory.set.Goals as goal
 
 pub returns-in-Some : goal.returns-in-Some

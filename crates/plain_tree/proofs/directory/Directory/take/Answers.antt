@@ -1,5 +1,5 @@
 use Rattle.std.proofs.Common.{None, refl}
-use Rattle.names.proofs.ByteKeys.{updates_bytes}
+use Rattle.names.specs.laws.ByteKeys.{updates_bytes}
 use Rattle.plain_tree.proofs.directory.Directory.take.Goals as goal
 
 pub returns-clause-new : goal.returns-clause-new

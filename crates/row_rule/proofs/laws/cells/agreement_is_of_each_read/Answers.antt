@@ -1,4 +1,4 @@
-use Rattle.row_rule.proofs.Writes.{agrees_each}
+use Rattle.row_rule.specs.laws.Writes.{agrees_each}
 use Rattle.row_rule.proofs.laws.cells.agreement_is_of_each_read.Goals as goal
 
 pub returns : goal.returns

@@ -1,4 +1,4 @@
-use Rattle.row_rule.proofs.Writes.{length_write, write_else, write_append, write_last}
+use Rattle.row_rule.specs.laws.Writes.{length_write, write_else, write_append, write_last}
 use Rattle.row_rule.proofs.laws.cells.writing_sets_its_places.Goals as goal
 
 pub returns-clause-long : goal.returns-clause-long

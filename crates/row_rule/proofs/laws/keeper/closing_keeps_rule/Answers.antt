@@ -1,4 +1,4 @@
-use Rattle.row_rule.proofs.KeeperSteps.{closes, closing_later}
+use Rattle.row_rule.specs.laws.KeeperSteps.{closes, closing_later}
 use Rattle.row_rule.proofs.laws.keeper.closing_keeps_rule.Goals as goal
 
 pub returns-clause-kept : goal.returns-clause-kept

@@ -1,4 +1,4 @@
-use Rattle.row_rule.proofs.KeeperSteps.{reads_word}
+use Rattle.row_rule.specs.laws.KeeperSteps.{reads_word}
 use Rattle.row_rule.proofs.laws.keeper.keeper_reads_its_row.Goals as goal
 
 pub returns : goal.returns

@@ -1,4 +1,4 @@
-use Rattle.row_rule.proofs.KeeperSteps.{sets_cell, setting_later}
+use Rattle.row_rule.specs.laws.KeeperSteps.{sets_cell, setting_later}
 use Rattle.row_rule.proofs.laws.keeper.setting_keeps_rule.Goals as goal
 
 pub returns-clause-kept : goal.returns-clause-kept

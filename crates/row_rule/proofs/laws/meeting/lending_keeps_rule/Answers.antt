@@ -1,4 +1,4 @@
-use Rattle.row_rule.proofs.Meetings.{lends}
+use Rattle.row_rule.specs.laws.Meetings.{lends}
 use Rattle.row_rule.proofs.laws.meeting.lending_keeps_rule.Goals as goal
 
 pub returns : goal.returns

@@ -1,4 +1,4 @@
-use Rattle.row_rule.proofs.Meetings.{takes_in}
+use Rattle.row_rule.specs.laws.Meetings.{takes_in}
 use Rattle.row_rule.proofs.laws.meeting.taking_in_keeps_rule.Goals as goal
 
 pub returns : goal.returns

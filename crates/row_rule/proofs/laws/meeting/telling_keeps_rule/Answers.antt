@@ -1,4 +1,4 @@
-use Rattle.row_rule.proofs.Meetings.{is_told, met_begins}
+use Rattle.row_rule.specs.laws.Meetings.{is_told, met_begins}
 use Rattle.row_rule.proofs.laws.meeting.telling_keeps_rule.Goals as goal
 
 pub returns-clause-kept : goal.returns-clause-kept

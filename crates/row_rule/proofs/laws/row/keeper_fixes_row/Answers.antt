@@ -1,4 +1,4 @@
-use Rattle.row_rule.proofs.Rule.{keeper_fixes}
+use Rattle.row_rule.specs.laws.Rule.{keeper_fixes}
 use Rattle.row_rule.proofs.laws.row.keeper_fixes_row.Goals as goal
 
 pub returns : goal.returns

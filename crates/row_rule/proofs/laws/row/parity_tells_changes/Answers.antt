@@ -1,4 +1,4 @@
-use Rattle.row_rule.proofs.Rule.{parity, even_encodes, half_word}
+use Rattle.row_rule.specs.laws.Rule.{parity, even_encodes, half_word}
 use Rattle.row_rule.proofs.laws.row.parity_tells_changes.Goals as goal
 
 pub returns-clause-even : goal.returns-clause-even

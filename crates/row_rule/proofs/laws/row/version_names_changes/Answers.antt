@@ -1,4 +1,4 @@
-use Rattle.row_rule.proofs.Rule.{same_seen}
+use Rattle.row_rule.specs.laws.Rule.{same_seen}
 use Rattle.row_rule.proofs.laws.row.version_names_changes.Goals as goal
 
 pub returns : goal.returns

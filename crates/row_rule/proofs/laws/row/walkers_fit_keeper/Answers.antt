@@ -1,4 +1,4 @@
-use Rattle.row_rule.proofs.Rule.{walker_fits}
+use Rattle.row_rule.specs.laws.Rule.{walker_fits}
 use Rattle.row_rule.proofs.laws.row.walkers_fit_keeper.Goals as goal
 
 pub returns : goal.returns

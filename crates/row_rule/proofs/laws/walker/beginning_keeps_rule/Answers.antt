@@ -1,4 +1,4 @@
-use Rattle.row_rule.proofs.WalkerSteps.{begins_walk, sees_count}
+use Rattle.row_rule.specs.laws.WalkerSteps.{begins_walk, sees_count}
 use Rattle.row_rule.proofs.laws.walker.beginning_keeps_rule.Goals as goal
 
 pub returns-clause-kept : goal.returns-clause-kept

@@ -1,4 +1,4 @@
-use Rattle.row_rule.proofs.WalkerSteps.{ends_walk, sees_count, was_whole}
+use Rattle.row_rule.specs.laws.WalkerSteps.{ends_walk, sees_count, was_whole}
 use Rattle.row_rule.proofs.laws.walker.ending_keeps_rule.Goals as goal
 
 pub returns-clause-kept : goal.returns-clause-kept

@@ -1,4 +1,4 @@
-use Rattle.row_rule.proofs.WalkerSteps.{enters}
+use Rattle.row_rule.specs.laws.WalkerSteps.{enters}
 use Rattle.row_rule.proofs.laws.walker.entering_keeps_rule.Goals as goal
 
 pub returns : goal.returns

@@ -1,4 +1,4 @@
-use Rattle.row_rule.proofs.WalkerSteps.{reads_cell}
+use Rattle.row_rule.specs.laws.WalkerSteps.{reads_cell}
 use Rattle.row_rule.proofs.laws.walker.reading_keeps_rule.Goals as goal
 
 pub returns : goal.returns

@@ -2,7 +2,7 @@
 use Rattle.std.proofs.Common.{ap, ◌∙◌}
 use Rattle.rule_globs.specs.Meaning.{meaning_of}
 use Rattle.rule_globs.specs.Tokens.{pattern_of}
-use Rattle.rule_globs.proofs.TokenLaws.{same_pattern}
+use Rattle.rule_globs.specs.laws.TokenLaws.{same_pattern}
 use Rattle.rule_globs.proofs.path.RulePath.items.Goals as goal
 
 pub returns-clause-pattern : goal.returns-clause-pattern

@@ -1,6 +1,6 @@
 use Rattle.std.proofs.Common.{rules, ◌≡◌, ◌∙◌, sym, true}
 use Rattle.rule_reader.specs.TextBytes.{begins, is_letter_byte}
-use Rattle.rule_reader.proofs.ReadCodeWords.{word_there, begins_at}
+use Rattle.rule_reader.specs.laws.ReadCodeWords.{word_there, begins_at}
 use Rattle.rule_reader.proofs.reader.words.word_of.Goals as goal
 
 pub returns-in-len1-up-clause-some : goal.returns-in-len1-up-clause-some

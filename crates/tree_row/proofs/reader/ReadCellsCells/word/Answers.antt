@@ -1,5 +1,5 @@
 use Rattle.std.proofs.Common.{◌∙◌, sym, arith}
-use Rattle.tree_row.proofs.TakenWords.{none_of, own_more, new_more, honest_more}
+use Rattle.tree_row.specs.laws.TakenWords.{none_of, own_more, new_more, honest_more}
 use Rattle.tree_row.proofs.reader.ReadCellsCells.word.Goals as goal
 
 pub invariant_of-self-in-Ok-clause-own : goal.invariant_of-self-in-Ok-clause-own

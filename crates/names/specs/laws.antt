@@ -1,0 +1,6 @@
+pub mod PermissionSets
+pub mod Positions
+pub mod LeastNumbers
+pub mod Records
+pub mod ByteKeys
+pub mod Results

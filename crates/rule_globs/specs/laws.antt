@@ -1,0 +1,5 @@
+pub mod TokenItems
+pub mod MeaningLaws
+pub mod TokenLaws
+pub mod Cuts
+pub mod PlainLaws

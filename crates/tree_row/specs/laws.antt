@@ -1,0 +1,4 @@
+pub mod OpeningRow
+pub mod OneTree
+pub mod Decisions
+pub mod TakenWords
