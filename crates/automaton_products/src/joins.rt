@@ -3,7 +3,7 @@ ghost use Rattle.std.specs.Prelude.{◌≡◌};
 ghost use Rattle.automaton_products.specs.Products.{joined, joined_hits};
 ghost use Rattle.names.specs.Hits.{first_number};
 
-use names::{LeastHits, Permission, Record, permissions_are_numbered, records_are_their_hits};
+use names::{LeastHits, Record};
 
 // The first number, or the other one if the first is 0.
 fn first_number(one: u16, other: u16) -> u16
@@ -25,12 +25,5 @@ fn joined_hits(one: LeastHits, other: LeastHits) -> LeastHits
 pub(crate) fn joined(one: &Record, other: &Record) -> Record
     ensures { result ≡ joined one.now other.now }
 {
-    permissions_are_numbered();
-    records_are_their_hits();
-    let mut record = *one;
-    for permission in &Permission::ALL {
-        let hits = joined_hits(one.of(*permission), other.of(*permission));
-        record = record.with_hits(*permission, hits);
-    }
-    record
+    Record::of_each(|permission| joined_hits(one.of(permission), other.of(permission)))
 }

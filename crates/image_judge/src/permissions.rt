@@ -2,7 +2,7 @@
 ghost use Rattle.std.specs.Prelude.{◌≡◌};
 ghost use Rattle.image_judge.specs.Sets.{number_in, number_of, set_of_number};
 
-use names::{Permission, Perms, permissions_are_numbered};
+use names::{Permission, Perms};
 
 /// The set that a number stands for; none for 0, and for what is no sum of permissions' numbers.
 pub(crate) fn set_of_number(number: u32) -> Option<Perms>
@@ -11,14 +11,7 @@ pub(crate) fn set_of_number(number: u32) -> Option<Perms>
     if number == 0 || number >= 1 << Permission::COUNT {
         return None;
     }
-    permissions_are_numbered();
-    let mut perms = Perms::NONE;
-    for permission in &Permission::ALL {
-        if (number >> permission.index()) % 2 == 1 {
-            perms = perms.with(*permission);
-        }
-    }
-    Some(perms)
+    Some(Perms::passing(|permission| { (number >> permission.index()) % 2 == 1 }))
 }
 
 /// The sum of the numbers of a set's permissions.

@@ -12,7 +12,7 @@ ghost use Rattle.tables.specs.Tables.{record_after};
 
 use crate::laws::told_is_the_one_verdict;
 use matcher::{AnyProfile, record_of_name, tables_of_rules_tell_their_verdicts};
-use names::{Permission, Perms, Record, Verdict, permissions_are_numbered, told};
+use names::{Permission, Perms, Record, Verdict, told};
 use table_verifier::{LookUps, Steps, VerifiedTable};
 
 /// A profile's verdict on a name (apparmor.d(5), "Rule Qualifiers"): by its rules if it was compiled, else by its table. Nothing
@@ -27,15 +27,8 @@ pub fn judge_name(profile: &AnyProfile, name: &[u8], ask: Perms) -> Verdict
 pub(crate) fn allowed_by(profile: &AnyProfile, name: &[u8]) -> Perms
     ensures { result ≡ allowed_by (judge_of profile.now) name.now }
 {
-    permissions_are_numbered();
     let record = record_by(profile, name);
-    let mut perms = Perms::NONE;
-    for permission in &Permission::ALL {
-        if tells_allowed(&record, *permission) {
-            perms = perms.with(*permission);
-        }
-    }
-    perms
+    Perms::passing(|permission| tells_allowed(&record, permission))
 }
 
 /// The record of a profile's verdicts on a name: one run answers every question.

@@ -4,5 +4,4 @@ pub mod PermsTests
 pub mod LeastSteps
 pub mod MissingSteps
 pub mod ToldLaws
-pub mod FilledRecords
 pub mod EqualRecords

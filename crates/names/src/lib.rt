@@ -14,6 +14,7 @@ mod limits;
 mod paths;
 mod permissions;
 mod record;
+mod split;
 mod verdict;
 
 pub use errors::{Errno, NoMemory};
@@ -25,7 +26,8 @@ pub use laws::{
     permissions_are_numbered, records_are_their_hits, records_tell_one_verdict, who_writes_appends,
 };
 pub use limits::{LONGEST_COMPONENT, LONGEST_LINK_TEXT, LONGEST_PATH, MOST_CHANGES};
-pub use paths::{Components, Path, has_long_component, split_at_slash, split_component};
+pub use paths::{Components, Path, Slash, has_long_component, split_component};
 pub use permissions::{Permission, Perms};
 pub use record::{LeastHits, Record};
+pub use split::{Separator, skip, split_at};
 pub use verdict::Verdict;

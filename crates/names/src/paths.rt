@@ -1,11 +1,11 @@
 ghost use Rattle.std.specs.Prelude.{◌≡◌, ◌<◌, ◌≤◌, ◌-◌, ◌∷◌, IfOk, IfErr, IfSome, IfNone, None, Some, drop, length, true};
 ghost use Rattle.std.specs.Iterator.{YieldsFirstBy, item_count};
-ghost use Rattle.std.specs.List.{prefix_len, position_or_len, before_first};
 ghost use Rattle.names.specs.Limits.{longest_path};
 ghost use Rattle.names.specs.Paths.{components, path_fault, begins_with_slash, has_long_component, is_slash};
 
 use crate::Errno;
 use crate::limits::{LONGEST_COMPONENT, LONGEST_PATH};
+use crate::split::{Separator, skip, split_at};
 use std::iter::FusedIterator;
 use std::marker::Model;
 
@@ -113,6 +113,18 @@ impl<'a> Iterator for Components<'a> {
 
 impl<'a> FusedIterator for Components<'a> {}
 
+/// Slashes, which separate the components of a path.
+#[derive(Debug, Drop)]
+pub struct Slash;
+
+impl Separator for Slash {
+    ghost separates = { is_slash };
+
+    fn separates(byte: u8) -> bool {
+        byte == b'/'
+    }
+}
+
 /// The first component of any text, and the end of the text that follows it: nothing, or text that
 /// begins with a slash. Only an empty text has none. Nothing is allocated.
 pub fn split_component(text: &[u8]) -> Option<(&[u8], &[u8])>
@@ -125,7 +137,7 @@ pub fn split_component(text: &[u8]) -> Option<(&[u8], &[u8])>
     if text.is_empty() {
         return None;
     }
-    let (component, left) = split_at_slash(skip_slashes(text));
+    let (component, left) = split_at::<Slash>(skip::<Slash>(text));
     if component.is_empty() {
         // Only slashes were left, so the text ends with one.
         return Some((b".", left));
@@ -140,25 +152,4 @@ pub fn has_long_component(text: &[u8]) -> bool
     // No component is longer than the text, so most texts need no walk.
     text.len() > LONGEST_COMPONENT
         && Components::of(text).any(|component| component.len() > LONGEST_COMPONENT)
-}
-
-// The bytes from the first one on that isn't a slash.
-fn skip_slashes(bytes: &[u8]) -> &[u8]
-    ensures { result.now ≡ drop (prefix_len is_slash bytes.now) bytes.now }
-{
-    match bytes.iter().position(|b| *b != b'/') {
-        Some(i) => &bytes[i..],
-        None => &[],
-    }
-}
-
-/// The bytes before the first slash, and those from it on. Nothing is allocated.
-pub fn split_at_slash(bytes: &[u8]) -> (&[u8], &[u8])
-    ensures before { result.0.now ≡ before_first is_slash bytes.now }
-    ensures from { result.1.now ≡ drop (position_or_len is_slash bytes.now) bytes.now }
-{
-    match bytes.iter().position(|b| *b == b'/') {
-        Some(i) => bytes.split_at(i),
-        None => (bytes, &[]),
-    }
 }

@@ -1,4 +1,4 @@
-ghost use Rattle.std.specs.Prelude.{◌≡◌, ◌<◌, ◌↔◌, ◌&&◌, ◌∷◌, [], not, false, Some, IsTrue};
+ghost use Rattle.std.specs.Prelude.{◌≡◌, ◌<◌, ◌↔◌, ◌&&◌, ◌∷◌, [], not, Bool, false, Some, IsTrue};
 ghost use Rattle.names.specs.declared.permissions.Permission.{Permission};
 ghost use Rattle.names.specs.Permissions.{letter, index, permission_count, permission_of, has, set_of, with_permission, perms_of, letters};
 ghost use Rattle.names.specs.Permissions.{Shares, conflicts, held};
@@ -97,6 +97,22 @@ impl Perms {
         map: false,
         append: false,
     };
+
+    /// The set of the permissions that pass a test. Each is tested once.
+    pub fn passing<F: Fn(Permission) -> bool>(test: F) -> Perms
+        requires { F.IsAlwaysCallable test }
+        ensures { (wanted : Permission → Bool) → ((p : Permission) (passes : Bool) → F.post test p passes → passes ≡ wanted p) →
+            result ≡ set_of wanted }
+    {
+        Perms {
+            read: test(Permission::Read),
+            write: test(Permission::Write),
+            link: test(Permission::Link),
+            lock: test(Permission::Lock),
+            map: test(Permission::Map),
+            append: test(Permission::Append),
+        }
+    }
 
     /// Whether the permission is in the set.
     pub fn contains(self, permission: Permission) -> bool

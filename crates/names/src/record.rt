@@ -3,7 +3,6 @@ ghost use Rattle.std.specs.Prelude.{◌≡◌, length};
 ghost use Rattle.names.specs.Permissions.{permission_count};
 
 use crate::kind::RuleKind;
-use crate::laws::{permissions_are_numbered, records_are_their_hits};
 use crate::permissions::{Permission, Perms};
 
 /// The least numbers of the rules that allow and that deny a permission (apparmor.d(5), "Rule Qualifiers"). Rules are counted
@@ -49,6 +48,8 @@ pub struct Record {
 impl Record {
     ghost use Rattle.std.specs.Prelude.{slice_index_or};
     ghost use Rattle.names.specs.Permissions.{index};
+    ghost use Rattle.names.specs.declared.permissions.Permission.{Permission};
+    ghost use Rattle.names.specs.declared.record.LeastHits.{LeastHits};
     ghost use Rattle.names.specs.Least.{hits_of, no_hit, record_of, with_hits};
     ghost use Rattle.names.specs.Hits.{hits_after, no_hits, record_with};
 
@@ -66,6 +67,24 @@ impl Record {
         ensures { result ≡ record_of (λ p. slice_index_or hits (index p) no_hit) }
     {
         Record { hits }
+    }
+
+    /// Returns the record of the hits that `hits_of` returns for each permission, which it is asked for once.
+    pub fn of_each<F: Fn(Permission) -> LeastHits>(hits_of: F) -> Record
+        requires { F.IsAlwaysCallable hits_of }
+        ensures { (wanted : Permission → LeastHits) →
+            ((p : Permission) (hits : LeastHits) → F.post hits_of p hits → hits ≡ wanted p) → result ≡ record_of wanted }
+    {
+        Record {
+            hits: [
+                hits_of(Permission::Read),
+                hits_of(Permission::Write),
+                hits_of(Permission::Link),
+                hits_of(Permission::Lock),
+                hits_of(Permission::Map),
+                hits_of(Permission::Append),
+            ],
+        }
     }
 
     /// Returns the least hits of a permission.
@@ -106,13 +125,6 @@ impl Record {
     pub fn with_rule(&self, kind: RuleKind, perms: Perms, number: u16) -> Record
         ensures { result ≡ record_with self.now kind perms number }
     {
-        permissions_are_numbered();
-        records_are_their_hits();
-        let mut record = *self;
-        for permission in &Permission::ALL {
-            let hits = self.hits_after(*permission, kind, perms, number);
-            record = record.with_hits(*permission, hits);
-        }
-        record
+        Record::of_each(|permission| self.hits_after(permission, kind, perms, number))
     }
 }

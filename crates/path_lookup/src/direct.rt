@@ -9,7 +9,7 @@ use crate::arrival::{Arrival, arrive_down};
 use crate::fault::WalkFault;
 use crate::look::Look;
 use directory_tree::Last;
-use names::{LONGEST_PATH, split_at_slash};
+use names::{LONGEST_PATH, Slash, split_at};
 
 /// How far a path leads by entries alone.
 pub(crate) enum Course<'a, E: Copy> {
@@ -61,7 +61,7 @@ fn own_component(left: &[u8]) -> Option<(&[u8], &[u8])>
     if left.first() != Some(&b'/') {
         return None;
     }
-    let (component, rest) = split_at_slash(&left[1..]);
+    let (component, rest) = split_at::<Slash>(&left[1..]);
     if component.is_empty() || component == b".".as_slice() || component == b"..".as_slice() {
         return None;
     }

@@ -11,7 +11,7 @@ ghost use Rattle.names.specs.declared.verdict.Verdict.{Verdict};
 ghost use Rattle.names.specs.declared.verdict.Verdict.TheVariants.{Allowed};
 
 use crate::judgment::judge_slow;
-use names::{Permission, Perms, Verdict, permissions_are_numbered};
+use names::{Permission, Perms, Verdict};
 use rule_globs::one_verdict_is_right;
 use rule_profile::Profile;
 use std::fmt;
@@ -32,14 +32,7 @@ pub enum LinkVerdict {
 pub fn allowed_perms(profile: &Profile, name: &[u8]) -> Perms
     ensures { result ≡ allowed (profile_value profile.now).rules name.now }
 {
-    permissions_are_numbered();
-    let mut perms = Perms::NONE;
-    for permission in &Permission::ALL {
-        if is_allowed(profile, name, *permission) {
-            perms = perms.with(*permission);
-        }
-    }
-    perms
+    Perms::passing(|permission| is_allowed(profile, name, permission))
 }
 
 /// Whether a permission is allowed to a name, asked by itself.

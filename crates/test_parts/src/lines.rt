@@ -1,6 +1,9 @@
 //! Changes, written as lines.
+ghost use Rattle.std.specs.Prelude.{◌==◌};
+ghost use Rattle.names.specs.Ascii.{space};
+
 use directory_tree::{Change, LinkBytes};
-use names::Path;
+use names::{Path, Separator, split_at};
 
 /// The change of a line: a verb and one or two words.
 pub fn change_of_line(line: &[u8]) -> Option<Change<'_>> {
@@ -35,10 +38,19 @@ fn change_of_two<'a>(verb: &[u8], one: Path<'a>, two: Path<'a>) -> Option<Change
     }
 }
 
+// Spaces, which separate the words of a line.
+struct Space;
+
+impl Separator for Space {
+    ghost separates = { λ byte. byte == space };
+
+    fn separates(byte: u8) -> bool {
+        byte == b' '
+    }
+}
+
 /// What comes before the first space, and what follows it.
 pub fn split_at_space(bytes: &[u8]) -> (&[u8], &[u8]) {
-    match bytes.iter().position(|b| *b == b' ') {
-        Some(at) => (&bytes[..at], &bytes[at + 1..]),
-        None => (bytes, b""),
-    }
+    let (word, from) = split_at::<Space>(bytes);
+    (word, from.get(1..).unwrap_or(b""))
 }

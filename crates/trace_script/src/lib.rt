@@ -38,4 +38,4 @@ pub use rows::{
 pub use script::run_script;
 pub use section::Section;
 pub use stop::Stop;
-pub use words::{Words, is_blank, skip_blanks, split_at_blank};
+pub use words::{Blank, Words, is_blank};

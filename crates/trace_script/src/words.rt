@@ -1,9 +1,9 @@
 //! The words of a line.
-ghost use Rattle.std.specs.Prelude.{◌≡◌, drop};
+ghost use Rattle.std.specs.Prelude.{◌≡◌};
 ghost use Rattle.std.specs.Iterator.{YieldsFirstBy, item_count};
-ghost use Rattle.std.specs.List.{prefix_len, position_or_len, before_first};
 ghost use Rattle.trace_script.specs.Script.{is_blank, words_of};
 
+use names::{Separator, skip, split_at};
 use std::iter::FusedIterator;
 use std::marker::Model;
 
@@ -46,7 +46,7 @@ impl<'a> Iterator for Words<'a> {
     ghost remaining = { item_count (λ left. left) };
 
     fn next(&mut self) -> Option<&'a [u8]> {
-        let (word, left) = split_at_blank(skip_blanks(self.left));
+        let (word, left) = split_at::<Blank>(skip::<Blank>(self.left));
         self.left = left;
         if word.is_empty() {
             return None;
@@ -64,23 +64,14 @@ pub fn is_blank(byte: u8) -> bool
     byte == b' ' || byte == b'\t'
 }
 
-/// The bytes from the first non-blank on.
-pub fn skip_blanks(bytes: &[u8]) -> &[u8]
-    ensures { result.now ≡ drop (prefix_len is_blank bytes.now) bytes.now }
-{
-    match bytes.iter().position(|b| !is_blank(*b)) {
-        Some(i) => &bytes[i..],
-        None => &[],
-    }
-}
+/// Blanks, which separate the words of a line.
+#[derive(Debug, Drop)]
+pub struct Blank;
 
-/// The bytes before the first blank, and those from it on.
-pub fn split_at_blank(bytes: &[u8]) -> (&[u8], &[u8])
-    ensures before { result.0.now ≡ before_first is_blank bytes.now }
-    ensures from { result.1.now ≡ drop (position_or_len is_blank bytes.now) bytes.now }
-{
-    match bytes.iter().position(|b| is_blank(*b)) {
-        Some(i) => bytes.split_at(i),
-        None => (bytes, &[]),
+impl Separator for Blank {
+    ghost separates = { is_blank };
+
+    fn separates(byte: u8) -> bool {
+        is_blank(byte)
     }
 }

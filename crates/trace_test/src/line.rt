@@ -5,10 +5,9 @@ ghost use Rattle.trace_test.specs.TestScript.{ask_kind, expect_kind, test_kind, 
 ghost use Rattle.trace_test.specs.inner.Tests.{test_kind_value};
 
 use crate::quotes::quoted_words;
+use names::{skip, split_at};
 use std::alloc::{AllocError, Global};
-use trace_script::{
-    Command, LineKind, is_blank, is_comment, is_word, kind_of_words, skip_blanks, split_at_blank,
-};
+use trace_script::{Blank, Command, LineKind, is_blank, is_comment, is_word, kind_of_words};
 
 /// A command of a test.
 #[derive(Clone, Copy)]
@@ -30,12 +29,12 @@ pub(crate) fn parse_test_line(
 ) -> Result<TestKind<'_>, AllocError>
     ensures { IfOk result (λ kind. test_kind_value kind ≡ test_kind number line.now) }
 {
-    let (word, rest) = split_at_blank(skip_blanks(line));
+    let (word, rest) = split_at::<Blank>(skip::<Blank>(line));
     if word.is_empty() || is_comment(word) {
         return Ok(LineKind::Ignored);
     }
     if is_word("expect", word) {
-        return Ok(expect_kind(number, without_end(skip_blanks(rest))));
+        return Ok(expect_kind(number, without_end(skip::<Blank>(rest))));
     }
     match quoted_words(alloc, line)? {
         Some(words) => Ok(ask_kind(kind_of_words(&words))),

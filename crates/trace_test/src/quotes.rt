@@ -5,8 +5,9 @@ ghost use Rattle.trace_script.specs.Script.{is_blank};
 ghost use Rattle.trace_test.specs.TestScript.{quoted, quoted_words, with_word, words_from};
 ghost use Rattle.trace_test.specs.inner.Tests.{is_parted};
 
+use names::{skip, split_at};
 use std::alloc::{AllocError, Global};
-use trace_script::{is_blank, skip_blanks, split_at_blank};
+use trace_script::{Blank, is_blank};
 
 /// The words of a line, unless a quote is left open, or something directly follows a closing one.
 pub(crate) fn quoted_words<'a>(
@@ -16,13 +17,13 @@ pub(crate) fn quoted_words<'a>(
     ensures { IfOk result (λ words. option_map (λ words. map (λ word. word.now) words.items) words ≡ quoted_words line.now) }
 {
     let mut words = Vec::new(alloc);
-    let mut left = skip_blanks(line);
+    let mut left = skip::<Blank>(line);
     while !left.is_empty() {
         let Some((word, rest)) = next_word(left) else {
             return Ok(None);
         };
         words.push(word)?;
-        left = skip_blanks(rest);
+        left = skip::<Blank>(rest);
     }
     Ok(Some(words))
 }
@@ -38,7 +39,7 @@ fn next_word(line: &[u8]) -> Option<(&[u8], &[u8])>
     if line[0] == b'"' {
         quoted_word(&line[1..])
     } else {
-        Some(split_at_blank(line))
+        Some(split_at::<Blank>(line))
     }
 }
 

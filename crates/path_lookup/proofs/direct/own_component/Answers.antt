@@ -10,7 +10,7 @@ use Rattle.path_lookup.proofs.direct.own_component.Goals as goal
 pub returns : goal.returns
 returns c =
     let left = c.args.left.now in
-    let component = c.split_at_slash.result.0.now in
+    let component = c.split_at.result.0.now in
     let begins : slice_index left 0 ≡ slash = search rules in
     let some : 0 < length left = search rules in
     let filled : 0 < length component = search rules in
@@ -20,6 +20,6 @@ returns c =
     ∙ sym c.eq-else-eq.ensures ∙ c.if-eq-2.false in
     let long = length-drop 1 left in
     let all : take (length left - 1) (drop 1 left) ≡ drop 1 left = take_all (length left - 1) (drop 1 left) (omega arith) in
-    own left begins some component c.split_at_slash.result.1.now
-    (c.split_at_slash.ensures.before ∙ ap (before_first is_slash) all)
-    (c.split_at_slash.ensures.from ∙ ap (λ z. drop (position_or_len is_slash z) z) all) filled no_dot no_dot_dot
+    own left begins some component c.split_at.result.1.now
+    (c.split_at.ensures.before ∙ ap (before_first is_slash) all)
+    (c.split_at.ensures.from ∙ ap (λ z. drop (position_or_len is_slash z) z) all) filled no_dot no_dot_dot

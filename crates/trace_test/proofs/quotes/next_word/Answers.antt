@@ -9,5 +9,5 @@ pub returns-else-line-eq34-clause-word : goal.returns-else-line-eq34-clause-word
 returns-else-line-eq34-clause-word c =
     let line = c.args.line.now in
     first_bare line c.requires.some c.requires.at_word c.if-line-eq34.false
-    ∙ ap (λ w. with_word w (quoted_words (drop (position_or_len is_blank line) line))) (sym c.split_at_blank.ensures.before)
-    ∙ ap (λ r. with_word c.split_at_blank.result.0.now (quoted_words r)) (sym c.split_at_blank.ensures.from)
+    ∙ ap (λ w. with_word w (quoted_words (drop (position_or_len is_blank line) line))) (sym c.split_at.ensures.before)
+    ∙ ap (λ r. with_word c.split_at.result.0.now (quoted_words r)) (sym c.split_at.ensures.from)

@@ -11,9 +11,9 @@ pub loop-left-init : goal.loop-left-init
 loop-left-init c =
     let line = c.args.line.now in
     record {
-      gathered = gathered_first (texts c.new-words.result.items) c.skip_blanks-left.result.now line (ap texts c.new-words.ensures.items)
-          c.skip_blanks-left.ensures;
-      at_word = rw c.skip_blanks-left.ensures (at_word line);
+      gathered = gathered_first (texts c.new-words.result.items) c.skip-left.result.now line (ap texts c.new-words.ensures.items)
+          c.skip-left.ensures;
+      at_word = rw c.skip-left.ensures (at_word line);
     }
 
 pub loop-left-preserved : goal.loop-left-preserved
@@ -21,7 +21,7 @@ loop-left-preserved c =
     let words = c.loop-left.words.items in
     let word = c.in-Some.word in
     let rest = c.in-Some.rest.now in
-    let next = c.skip_blanks-left-in-loop-left in
+    let next = c.skip-left-in-loop-left in
     let more = ap texts c.in_ok-push.ensures.items ∙ map-append (λ (word : Bor (List ℕ)). word.now) words (word ∷ []) in
     record {
       gathered = gathered_next (texts words) (texts c.push.new.self.items) word.now c.loop-left.left.now rest

@@ -5,14 +5,14 @@ use Rattle.trace_script.proofs.words.WordsIterator.next.Goals as goal
 
 first : goal.returns-clause-steps
 first c =
-    let parts = c.split_at_blank.ensures in
-    let skipped = c.skip_blanks.ensures in
+    let parts = c.split_at.ensures in
+    let skipped = c.skip.ensures in
     sym c.self.view_is ∙ step_at_word c.self.inside.left.now _ _ (rw skipped at parts.before) (rw skipped at parts.from) (search rules)
 
 pub returns-then-is_empty-clause-steps : goal.returns-then-is_empty-clause-steps
 returns-then-is_empty-clause-steps c =
-    let parts = c.split_at_blank.ensures in
-    let skipped = c.skip_blanks.ensures in
+    let parts = c.split_at.ensures in
+    let skipped = c.skip.ensures in
     let ended = step_at_end c.self.inside.left.now _ _ (rw skipped at parts.before) (rw skipped at parts.from) (search rules) in
     (sym c.self.view_is ∙ ended.0, ended.1)
 
