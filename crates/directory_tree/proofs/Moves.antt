@@ -6,7 +6,8 @@ use mathlib.Core.Logic.{◌⊎◌, inl, inr}
 use Rattle.directory_tree.specs.Components.{IsComponent}
 use Rattle.directory_tree.specs.Tree.{Tree, Entry, WellFormed, Distinct, root, find, own_entry, leads, is_at, is_directory, is_below}
 use Rattle.directory_tree.specs.Apply.{entry, placed, place_one}
-use Rattle.directory_tree.specs.laws.Found.{found_at, at_once, is_at-same, Apart, find-placed_new, find-placed_old, find-placed_else, put_at}
+use Rattle.directory_tree.specs.laws.Found.{found_at, at_once, is_at-same, Apart, find-placed_new}
+use Rattle.directory_tree.specs.laws.Found.{find-placed_old, find-placed_else, put_at}
 use Rattle.std.proofs.lemmas.Option.{none-some, same_Some}
 use Rattle.directory_tree.proofs.Walks.{own_entry_found}
 use Rattle.directory_tree.proofs.Depth.{Deep, deep}

@@ -1,5 +1,6 @@
 -- The kind of a node is that of any of its entries.
-use Rattle.std.proofs.Common.{◌≡◌, ℕ, ◌==◌, Bool, true, false, List, [], ◌∷◌, Some, sym, refl, ap, ◌∙◌, arith, eqb-true, eq-eqb, ne_eqb, true≢false}
+use Rattle.std.proofs.Common.{◌≡◌, ℕ, ◌==◌, Bool, true, false, List, [], ◌∷◌, Some, sym, refl}
+use Rattle.std.proofs.Common.{ap, ◌∙◌, arith, eqb-true, eq-eqb, ne_eqb, true≢false}
 use Rattle.std.specs.Prelude.{if◌then◌else◌}
 use Rattle.directory_tree.specs.declared.node.NodeKind.{NodeKind}
 use Rattle.directory_tree.specs.declared.node.NodeKind.TheVariants.{Directory}

@@ -1,5 +1,6 @@
 -- Where an entry of a tree after a change comes from.
-use Rattle.std.proofs.Common.{◌≡◌, ℕ, ◌+◌, ◌==◌, Bool, true, false, List, Some, None, Option, sym, refl, ap, ◌∙◌, subst, eq-eqb, true≢false}
+use Rattle.std.proofs.Common.{◌≡◌, ℕ, ◌+◌, ◌==◌, Bool, true, false, List, Some, None, Option, sym}
+use Rattle.std.proofs.Common.{refl, ap, ◌∙◌, subst, eq-eqb, true≢false}
 use Rattle.std.specs.Prelude.{if◌then◌else◌, Result, Ok, Err}
 use mathlib.Core.Logic.{◌⊎◌, inl, inr}
 use Rattle.names.specs.declared.errors.Errno.{Errno}

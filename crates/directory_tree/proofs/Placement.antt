@@ -8,7 +8,8 @@ use Rattle.directory_tree.specs.Apply.{entry, with_entry, without, dropped, plac
 use Rattle.std.proofs.lemmas.Option.{none-some, same_Some}
 use Rattle.std.proofs.lemmas.Bool.{and_parts}
 use Rattle.std.proofs.lemmas.Slice.Eq.{bytes_eq-Decides}
-use Rattle.directory_tree.specs.laws.Found.{found_at, at_once, is_at-same, Apart, put_at, find-append_old, find-append_new, find-without_same}
+use Rattle.directory_tree.specs.laws.Found.{found_at, at_once, is_at-same, Apart, put_at}
+use Rattle.directory_tree.specs.laws.Found.{find-append_old, find-append_new, find-without_same}
 use Rattle.directory_tree.specs.laws.Found.{find-without_other, find-placed_new, find-placed_old, find-placed_else, without-none}
 use Rattle.directory_tree.proofs.Walks.{IsPlace, own_entry_found}
 use Rattle.directory_tree.proofs.Presence.{placed_at}

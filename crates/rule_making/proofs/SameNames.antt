@@ -15,7 +15,8 @@ use Rattle.rule_globs.specs.declared.items.Item.{Item, Item-F, out-Item, out-rol
 use Rattle.rule_globs.specs.declared.items.Item.TheVariants as v
 use Rattle.rule_globs.specs.declared.items.Item.TheVariants.{rolls-Byte, rolls-AnyByte, rolls-Class, rolls-Stars, rolls-Group}
 use Rattle.rule_globs.specs.laws.MeaningLaws.{meaning-Byte, meaning-Group}
-use Rattle.rule_globs.specs.laws.TokenItems.{item_induction, tokens-Byte, tokens-AnyByte, tokens-Class, tokens-Stars, tokens-Group, full-Group}
+use Rattle.rule_globs.specs.laws.TokenItems.{item_induction, tokens-Byte, tokens-AnyByte, tokens-Class}
+use Rattle.rule_globs.specs.laws.TokenItems.{tokens-Stars, tokens-Group, full-Group}
 use Rattle.rule_globs.specs.laws.TokenLaws.{in_front, in_front-end, items_stand, each_item, same_pattern}
 use Rattle.rule_profile.specs.Readable.{begins_with_slash, begins_with_run, is_path}
 use Rattle.rule_profile.specs.PathTokens.{is_plain_slash}
