@@ -13,12 +13,11 @@ use Rattle.directory_tree.specs.declared.change.Change.TheVariants as change
 use Rattle.directory_tree.specs.Tree.{Tree, root_alone}
 use Rattle.directory_tree.specs.Apply.{Changed, apply, apply_counted, has_room, most_changes, tree_after}
 use Rattle.names.specs.laws.Results.{err-ok, same_Ok}
-use Rattle.directory_tree.proofs.Changes.{tree_after_well}
+use Rattle.tree_row.specs.laws.WorldsAfter.{world_after}
 use Rattle.path_lookup.specs.World.{World}
 use Rattle.directory_tree.specs.laws.OneMore.{after_more}
-use Rattle.tree_row.specs.Slots.{slot_at}
 use Rattle.tree_row.specs.Rows.{Encodes, row_length}
-use Rattle.tree_row.specs.Worlds.{spot_at, EncodesWorld, SeesBy}
+use Rattle.tree_row.specs.Worlds.{EncodesWorld, SeesBy}
 use Rattle.tree_row.specs.OpeningRow.{opening_row}
 use Rattle.tree_row.specs.laws.OpeningRow as opening_row_is
 use Rattle.tree_row.specs.laws.OneTree.{same_tree}
@@ -77,7 +76,7 @@ kept_first h none first = record {
 -- one more change can be counted, except after the last
 pub countable : (h : Held) (next version : ℕ) → IsKept h next version → version ≢ most_changes → Countable h next
 countable h next version k not_last = record {
-  world = record { tree = k.tree; named = spot_at (slot_at h.cells); sound = tree_after_well h.capacity h.history k.tree k.made };
+  world = world_after h.capacity h.history h.cells k.tree k.made;
   made = k.made;
   stands = record { tree = k.encodes; named = λ s. refl };
   next_is = sym k.next_is;
@@ -90,7 +89,7 @@ full h next version k last change = too_many h.capacity h.history k.tree k.made 
 -- the tree is seen, and no other
 pub sees_history : (h : Held) (next version : ℕ) → IsKept h next version → SeesHistory h
 sees_history h next version k = record {
-  world = record { tree = k.tree; named = spot_at (slot_at h.cells); sound = tree_after_well h.capacity h.history k.tree k.made };
+  world = world_after h.capacity h.history h.cells k.tree k.made;
   made = k.made;
   seen = (h.cells, refl, record { tree = k.encodes; named = λ s. refl });
   only = λ w (row, is, encodes). same_tree h.capacity h.cells k.tree w.tree k.encodes

@@ -1,6 +1,7 @@
 -- What a seat at the table of words knows: a view of the rule. No seat holds a slot.
 use Rattle.std.specs.Prelude.{◌≡◌, []}
 use Rattle.atomic_table.specs.Table.{Me}
+use Rattle.atomic_table.specs.declared.shared.Seat.{Seat}
 use Rattle.row_rule.specs.declared.view.KeeperView.{KeeperView}
 use Rattle.row_rule.specs.declared.view.WalkerView.{WalkerView}
 use Rattle.row_rule.specs.declared.view.View.{View}
@@ -18,6 +19,10 @@ walker_of (Walks w) = w
 abbrev pub keeper_of : View → KeeperView
 keeper_of (Keeps k) = k
 keeper_of (Walks w) = at_rest [] []
+
+-- what the keeper knows in its seat
+abbrev pub keeper_in : Seat (Unit {0}) View → KeeperView
+keeper_in seat = keeper_of seat.me.0
 
 abbrev pub walking : WalkerView → Mine
 walking w = (Walks w, [])

@@ -4,7 +4,7 @@ ghost use Rattle.std.specs.List.{All};
 ghost use Rattle.tree_row.specs.Rows.{row_length};
 ghost use Rattle.row_rule.specs.Row.{write, count_of};
 ghost use Rattle.row_plan.specs.Changes.{EncodesChanges};
-ghost use Rattle.dentry_cache.specs.Seats.{keeper_of, IsKeeping};
+ghost use Rattle.dentry_cache.specs.Seats.{keeper_in, IsKeeping};
 
 use crate::rule::{RowSeat, RowTable};
 use crate::steps;
@@ -23,16 +23,16 @@ pub(crate) fn perform(
     requires own { seat.old.table_id ≡ table.now.shared.table_id }
     requires words { (table.now.shared.table_id.words ≡ row_length table.now.shared.key + 1) × (table.now.shared.key < 2 ^ 16) }
     requires role { IsKeeping seat.old.me }
-    requires shut { (keeper_of seat.old.me.0).pending ≡ None }
-    requires count { (count ≡ count_of (keeper_of seat.old.me.0)) × (count + 2 < 2 ^ 64) }
-    requires planned { EncodesChanges table.now.shared.key (write (keeper_of seat.old.me.0).cells plan.now)
-        ((keeper_of seat.old.me.0).history ++ change.now ∷ []) }
+    requires shut { (keeper_in seat.old).pending ≡ None }
+    requires count { (count ≡ count_of (keeper_in seat.old)) × (count + 2 < 2 ^ 64) }
+    requires planned { EncodesChanges table.now.shared.key (write (keeper_in seat.old).cells plan.now)
+        ((keeper_in seat.old).history ++ change.now ∷ []) }
     requires within { All (λ cell. cell.place < row_length table.now.shared.key) plan.now }
     ensures own { seat.new.table_id ≡ seat.old.table_id }
     ensures role { IsKeeping seat.new.me }
-    ensures shut { (keeper_of seat.new.me.0).pending ≡ None }
-    ensures history { (keeper_of seat.new.me.0).history ≡ (keeper_of seat.old.me.0).history ++ change.now ∷ [] }
-    ensures cells { (keeper_of seat.new.me.0).cells ≡ write (keeper_of seat.old.me.0).cells plan.now }
+    ensures shut { (keeper_in seat.new).pending ≡ None }
+    ensures history { (keeper_in seat.new).history ≡ (keeper_in seat.old).history ++ change.now ∷ [] }
+    ensures cells { (keeper_in seat.new).cells ≡ write (keeper_in seat.old).cells plan.now }
 {
     begin(table, seat, count, change, plan, plan.len());
     steps::close(table, seat, count + 1);
@@ -50,17 +50,17 @@ pub(crate) fn begin(
     requires own { seat.old.table_id ≡ table.now.shared.table_id }
     requires words { (table.now.shared.table_id.words ≡ row_length table.now.shared.key + 1) × (table.now.shared.key < 2 ^ 16) }
     requires role { IsKeeping seat.old.me }
-    requires shut { (keeper_of seat.old.me.0).pending ≡ None }
-    requires count { (count ≡ count_of (keeper_of seat.old.me.0)) × (count + 2 < 2 ^ 64) }
-    requires planned { EncodesChanges table.now.shared.key (write (keeper_of seat.old.me.0).cells plan.now)
-        ((keeper_of seat.old.me.0).history ++ change.now ∷ []) }
+    requires shut { (keeper_in seat.old).pending ≡ None }
+    requires count { (count ≡ count_of (keeper_in seat.old)) × (count + 2 < 2 ^ 64) }
+    requires planned { EncodesChanges table.now.shared.key (write (keeper_in seat.old).cells plan.now)
+        ((keeper_in seat.old).history ++ change.now ∷ []) }
     requires within { All (λ cell. cell.place < row_length table.now.shared.key) plan.now }
     requires fewer { set ≤ length plan.now }
     ensures own { seat.new.table_id ≡ seat.old.table_id }
     ensures role { IsKeeping seat.new.me }
-    ensures history { (keeper_of seat.new.me.0).history ≡ (keeper_of seat.old.me.0).history }
-    ensures pending { (keeper_of seat.new.me.0).pending ≡ Some record { change = change.now; left = drop set plan.now } }
-    ensures cells { (keeper_of seat.new.me.0).cells ≡ write (keeper_of seat.old.me.0).cells (take set plan.now) }
+    ensures history { (keeper_in seat.new).history ≡ (keeper_in seat.old).history }
+    ensures pending { (keeper_in seat.new).pending ≡ Some record { change = change.now; left = drop set plan.now } }
+    ensures cells { (keeper_in seat.new).cells ≡ write (keeper_in seat.old).cells (take set plan.now) }
 {
     steps::open::<Brand>(table, seat, count, change, plan);
     for i in 0..set {

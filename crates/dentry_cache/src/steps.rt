@@ -8,7 +8,7 @@ ghost use Rattle.row_rule.specs.declared.view.Pending.{Pending};
 ghost use Rattle.row_rule.specs.Row.{write, count_of};
 ghost use Rattle.row_rule.specs.Steps.{newcomer, reading, opening, setting, closing, lent_by, meeting};
 ghost use Rattle.row_plan.specs.Changes.{EncodesChanges};
-ghost use Rattle.dentry_cache.specs.Seats.{walker_of, keeper_of, walking, keeping, IsWalking, IsKeeping};
+ghost use Rattle.dentry_cache.specs.Seats.{walker_of, keeper_in, walking, keeping, IsWalking, IsKeeping};
 ghost use Rattle.dentry_cache.specs.Told.{HasBegun, HasEnded};
 
 use crate::rule::{
@@ -69,7 +69,7 @@ pub(crate) fn look_at(table: &RowTable, seat: &mut RowSeat, word: usize) -> u64
     requires role { IsKeeping seat.old.me }
     ensures own { (seat.new.table_id ≡ seat.old.table_id) × (seat.new.id ≡ seat.old.id) }
     ensures same { seat.new.me ≡ seat.old.me }
-    ensures word { result ≡ slice_index (count_of (keeper_of seat.old.me.0) ∷ (keeper_of seat.old.me.0).cells) word }
+    ensures word { result ≡ slice_index (count_of (keeper_in seat.old) ∷ (keeper_in seat.old).cells) word }
 {
     table.shared.load::<Looks>(seat, word)
 }
@@ -85,14 +85,14 @@ pub(crate) fn open<J: Planned>(
     requires own { seat.old.table_id ≡ table.now.shared.table_id }
     requires words { 0 < table.now.shared.table_id.words }
     requires role { IsKeeping seat.old.me }
-    requires shut { (keeper_of seat.old.me.0).pending ≡ None }
-    requires count { (count ≡ count_of (keeper_of seat.old.me.0)) × (count + 1 < 2 ^ 64) }
+    requires shut { (keeper_in seat.old).pending ≡ None }
+    requires count { (count ≡ count_of (keeper_in seat.old)) × (count + 1 < 2 ^ 64) }
     requires picked { (J.change ≡ change.now) × (J.plan ≡ plan.now) }
-    requires planned { EncodesChanges table.now.shared.key (write (keeper_of seat.old.me.0).cells plan.now)
-        ((keeper_of seat.old.me.0).history ++ change.now ∷ []) }
+    requires planned { EncodesChanges table.now.shared.key (write (keeper_in seat.old).cells plan.now)
+        ((keeper_in seat.old).history ++ change.now ∷ []) }
     ensures own { seat.new.table_id ≡ seat.old.table_id }
     ensures role { IsKeeping seat.new.me }
-    ensures told { keeper_of seat.new.me.0 ≡ opening (keeper_of seat.old.me.0) change.now plan.now }
+    ensures told { keeper_in seat.new ≡ opening (keeper_in seat.old) change.now plan.now }
 {
     table.shared.store::<Opens<J>>(seat, 0, count + 1);
 }
@@ -103,10 +103,10 @@ pub(crate) fn set_cell(table: &RowTable, seat: &mut RowSeat, cell: Cell)
     requires words { (cell.place + 1 < table.now.shared.table_id.words) × (cell.place < 2 ^ 32) }
     requires role { IsKeeping seat.old.me }
     requires next { (change : Change) × (left : List Cell)
-        × ((keeper_of seat.old.me.0).pending ≡ Some record { change = change; left = cell ∷ left }) }
+        × ((keeper_in seat.old).pending ≡ Some record { change = change; left = cell ∷ left }) }
     ensures own { seat.new.table_id ≡ seat.old.table_id }
     ensures role { IsKeeping seat.new.me }
-    ensures told { keeper_of seat.new.me.0 ≡ setting (keeper_of seat.old.me.0) cell }
+    ensures told { keeper_in seat.new ≡ setting (keeper_in seat.old) cell }
 {
     table.shared.store::<Sets>(seat, cell.place + 1, cell.word);
 }
@@ -116,11 +116,11 @@ pub(crate) fn close(table: &RowTable, seat: &mut RowSeat, count: u64)
     requires own { seat.old.table_id ≡ table.now.shared.table_id }
     requires words { 0 < table.now.shared.table_id.words }
     requires role { IsKeeping seat.old.me }
-    requires count { (count ≡ count_of (keeper_of seat.old.me.0)) × (count + 1 < 2 ^ 64) }
-    requires all_set { (change : Change) × ((keeper_of seat.old.me.0).pending ≡ Some record { change = change; left = [] }) }
+    requires count { (count ≡ count_of (keeper_in seat.old)) × (count + 1 < 2 ^ 64) }
+    requires all_set { (change : Change) × ((keeper_in seat.old).pending ≡ Some record { change = change; left = [] }) }
     ensures own { seat.new.table_id ≡ seat.old.table_id }
     ensures role { IsKeeping seat.new.me }
-    ensures told { keeper_of seat.new.me.0 ≡ closing (keeper_of seat.old.me.0) }
+    ensures told { keeper_in seat.new ≡ closing (keeper_in seat.old) }
 {
     table.shared.store::<Closes>(seat, 0, count + 1);
 }
@@ -132,7 +132,7 @@ pub(crate) fn lend(table: &RowTable, seat: &mut RowSeat) -> RowSeat
     requires role { IsKeeping seat.old.me }
     ensures own { seat.new.table_id ≡ seat.old.table_id }
     ensures same { seat.new.me ≡ seat.old.me }
-    ensures lent { (result.table_id ≡ seat.old.table_id) × (result.me ≡ walking (lent_by (keeper_of seat.old.me.0))) }
+    ensures lent { (result.table_id ≡ seat.old.table_id) × (result.me ≡ walking (lent_by (keeper_in seat.old))) }
 {
     table.shared.split_seat::<Lends>(seat)
 }
@@ -145,7 +145,7 @@ pub(crate) fn take_in(table: &RowTable, seat: &mut RowSeat, other: RowSeat)
     requires role { IsKeeping seat.old.me }
     ensures own { seat.new.table_id ≡ seat.old.table_id }
     ensures role { IsKeeping seat.new.me }
-    ensures told { keeper_of seat.new.me.0 ≡ meeting (keeper_of seat.old.me.0) (walker_of other.me.0).seen }
+    ensures told { keeper_in seat.new ≡ meeting (keeper_in seat.old) (walker_of other.me.0).seen }
 {
     table.shared.join_seat::<TakesIn>(seat, other);
 }
@@ -157,8 +157,8 @@ pub(crate) fn learn(table: &RowTable, seat: &mut RowSeat)
     requires role { IsKeeping seat.old.me }
     ensures own { seat.new.table_id ≡ seat.old.table_id }
     ensures role { IsKeeping seat.new.me }
-    ensures told { keeper_of seat.new.me.0 ≡ meeting (keeper_of seat.old.me.0) [] }
-    ensures begins { IsPrefix (keeper_of seat.old.me.0).met (keeper_of seat.old.me.0).history }
+    ensures told { keeper_in seat.new ≡ meeting (keeper_in seat.old) [] }
+    ensures begins { IsPrefix (keeper_in seat.old).met (keeper_in seat.old).history }
 {
     table.shared.load::<Learns>(seat, 0);
 }

@@ -7,19 +7,18 @@ use Rattle.std.proofs.lemmas.List.{get_or-replicate, set-get_or}
 use Rattle.directory_tree.specs.declared.node.NodeKind.TheVariants.{Directory}
 use Rattle.directory_tree.specs.Tree.{Tree, root_alone}
 use Rattle.directory_tree.specs.Apply.{and_then, entry, with_entry, apply, has_room, tree_after}
-use Rattle.directory_tree.proofs.Changes.{tree_after_well}
+use Rattle.tree_row.specs.laws.WorldsAfter.{world_after}
 use Rattle.path_lookup.specs.World.{World}
 use Rattle.change_checks.specs.declared.act.Act.{Act}
 use Rattle.change_checks.specs.declared.act.Act.TheVariants as act
 use Rattle.change_checks.specs.declared.act.NewNode.TheVariants as new
-use Rattle.tree_row.specs.Slots.{slot_at, text_at, packed}
+use Rattle.tree_row.specs.Slots.{text_at, packed}
 use Rattle.row_index.specs.Places.{around, index_length}
 use Rattle.row_index.specs.Hashes.{home}
 use Rattle.row_index.proofs.Rounds.{around_within}
 use Rattle.row_index.specs.laws.Homes.{home_within}
 use Rattle.row_index.specs.laws.Sizes.{index_some}
 use Rattle.tree_row.specs.Rows.{row_length, index_base, Encodes}
-use Rattle.tree_row.specs.Worlds.{spot_at}
 use Rattle.tree_row.specs.OpeningRow.{opening_row}
 use Rattle.tree_row.specs.laws.OpeningRow.{length-opening, opens}
 use Rattle.tree_row.specs.declared.look.RowEntry.{RowEntry}
@@ -200,7 +199,7 @@ module _ (capacity : ℕ) (room : 1 ≤ capacity) where
       ∙ ap (slice_set (slice_set (slice_set second 166 0) 167 1) 168) (sym letter)
 
   abbrev world : World
-  world = record { tree = root_alone; named = spot_at (slot_at row); sound = tree_after_well capacity [] root_alone refl }
+  world = world_after capacity [] row root_alone refl
 
   has_place : has_room capacity root_alone ≡ true
   has_place = lt-ltb 0 capacity (omega arith)

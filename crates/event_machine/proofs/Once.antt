@@ -2,7 +2,7 @@
 use Rattle.std.proofs.Common.{◌≡◌, ℕ, ◌/◌, ◌%◌, List, [], sym, ap, ◌∙◌, arith, inl, inr, ⊎_elim}
 use Rattle.std.specs.Prelude.{Result, Ok, Err, ◌⊎◌}
 use Rattle.names.specs.declared.errors.Errno.{Errno}
-use Rattle.directory_tree.proofs.Changes.{tree_after_well}
+use Rattle.tree_row.specs.laws.WorldsAfter.{sound_after}
 use Rattle.mediation.specs.Judge.{verdict_by}
 use Rattle.mediation.specs.Opens.{Reached, reached}
 use Rattle.justification.specs.declared.answer.Answer.{Answer}
@@ -61,7 +61,7 @@ saw_once : (room : ℕ) (p : Policed) (w : WalkerView) → SawTree room w → Is
 saw_once room p w saw still =
     let (row, agrees, encoded) = saw still in
     let (t, made, encodes) = encoded in
-    (reached t p.call.path p.call.ask, λ e decides. decides row t agrees (tree_after_well room w.seen t made) encodes)
+    (reached t p.call.path p.call.ask, λ e decides. decides row t agrees (sound_after room w.seen t made) encodes)
 
 one_told : (room : ℕ) (p : Policed) (w : WalkerView) (a b : Answer) (x y : List ℕ) → SawTree room w → Tells room p w a x →
     Tells room p w b y → with_name a x ≡ with_name b y

@@ -7,7 +7,7 @@ use Rattle.names.specs.declared.errors.Errno.{Errno}
 use Rattle.directory_tree.specs.declared.change.Change.{Change}
 use Rattle.directory_tree.specs.Tree.{Tree}
 use Rattle.directory_tree.specs.Apply.{tree_after}
-use Rattle.directory_tree.proofs.Changes.{tree_after_well}
+use Rattle.tree_row.specs.laws.WorldsAfter.{sound_after}
 use Rattle.mediation.specs.Opens.{Reached, reached}
 use Rattle.justification.specs.laws.Later.{tree_stays}
 use Rattle.justification.specs.declared.answer.Answer.{Answer}
@@ -66,7 +66,7 @@ decided_tree m p w version end events capacity s f k still half decides =
       t,
       seen_tree m.capacity m.keeper.history w.seen version t f.begins (f.half ∙ sym half) made,
       decides row t agrees
-          (tree_after_well m.capacity w.seen t made) encodes,
+          (sound_after m.capacity w.seen t made) encodes,
     )
 
 tells_right : (capacity : ℕ) (events : List Event) (m : Machine) (s : ℕ) (p : Policed) (w : WalkerView) (told : Answer) (name : List ℕ) →

@@ -11,7 +11,7 @@ pub(crate) fn set_of_number(number: u32) -> Option<Perms>
     if number == 0 || number >= 1 << Permission::COUNT {
         return None;
     }
-    Some(Perms::passing(|permission| { (number >> permission.index()) % 2 == 1 }))
+    Some(Perms::passing(|permission| (number >> permission.index()) % 2 == 1))
 }
 
 /// The sum of the numbers of a set's permissions.

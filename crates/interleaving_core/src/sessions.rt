@@ -22,6 +22,7 @@ pub struct Sessions {
 impl Model for Sessions {
     ghost use Rattle.std.specs.Prelude.{ℕ, ◌≤◌, List};
     ghost use Rattle.event_machine.specs.Machine as machine;
+    ghost use Rattle.tree_row.specs.declared.cells.TheConstants.{MOST_ENTRIES};
 
     ghost Value = { ℕ × List (ℕ × (ℕ × machine.Session)) };
 
@@ -29,7 +30,7 @@ impl Model for Sessions {
 
     ghost view = { λ s. (s.capacity, s.by_number.entries) };
 
-    ghost invariant = { λ s. (s.capacity ≤ 16384) × ShareCapacity s.capacity s.by_number.entries };
+    ghost invariant = { λ s. (s.capacity ≤ MOST_ENTRIES) × ShareCapacity s.capacity s.by_number.entries };
 }
 
 impl Sessions {

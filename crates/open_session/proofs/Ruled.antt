@@ -1,6 +1,6 @@
 -- What the rule of the row gives to the sessions of a machine.
 use Rattle.std.proofs.Common.{◌≡◌, ℕ, ◌%◌, [], ◌∷◌, sym, ◌∙◌, ap}
-use Rattle.directory_tree.proofs.Changes.{tree_after_well}
+use Rattle.tree_row.specs.laws.WorldsAfter.{sound_after}
 use Rattle.row_rule.specs.declared.view.WalkerView.{WalkerView}
 use Rattle.row_rule.specs.declared.view.View.TheVariants.{Keeps, Walks}
 use Rattle.row_rule.specs.Row.{count_of, FitsWalker}
@@ -20,7 +20,7 @@ saw : (m : Machine) (w : WalkerView) → FitsWalker m.keeper w →
     → SawTree m.capacity (ending w (count_of m.keeper) m.keeper.history)
 saw m w fits encodes (even, same) =
     let tree = encodes (ap (λ (n : ℕ). n % 2) same ∙ even) in
-    (m.keeper.cells, tree.0, (fits.still even (sym same)).1, tree_after_well m.capacity m.keeper.history tree.0 tree.1, tree.2)
+    (m.keeper.cells, tree.0, (fits.still even (sym same)).1, sound_after m.capacity m.keeper.history tree.0 tree.1, tree.2)
 
 sees_at : (m : Machine) (stage : Stage) → FitsWalker m.keeper (view_of stage) →
     (count_of m.keeper % 2 ≡ 0 → EncodesChanges m.capacity m.keeper.cells m.keeper.history)

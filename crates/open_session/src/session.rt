@@ -22,6 +22,7 @@ impl Model for SteppedSession {
     ghost use Rattle.names.specs.Limits.{longest_path};
     ghost use Rattle.std.specs.Prelude.{ℕ, ◌≤◌, take};
     ghost use Rattle.event_machine.specs.Machine as machine;
+    ghost use Rattle.tree_row.specs.declared.cells.TheConstants.{MOST_ENTRIES};
 
     ghost Value = { ℕ × machine.Session };
 
@@ -29,5 +30,5 @@ impl Model for SteppedSession {
 
     ghost view = { λ s. (s.capacity, record { name = take s.name_length s.name.value; stage = stage_of s.stage }) };
 
-    ghost invariant = { λ s. (s.capacity ≤ 16384) × (s.name_length ≤ longest_path) × IsStanding s.capacity s.room.value s.stage };
+    ghost invariant = { λ s. (s.capacity ≤ MOST_ENTRIES) × (s.name_length ≤ longest_path) × IsStanding s.capacity s.room.value s.stage };
 }

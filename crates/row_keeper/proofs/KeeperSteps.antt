@@ -17,11 +17,10 @@ use Rattle.directory_tree.specs.Tree.{Tree, root_alone}
 use Rattle.directory_tree.specs.Apply.{Changed, apply, apply_counted, has_room, most_changes, tree_after}
 use Rattle.names.specs.laws.Results.{err-ok, same_Ok}
 use Rattle.std.proofs.lemmas.Option.{none-some}
-use Rattle.directory_tree.proofs.Changes.{tree_after_well}
+use Rattle.tree_row.specs.laws.WorldsAfter.{world_after}
 use Rattle.path_lookup.specs.World.{World}
 use Rattle.directory_tree.specs.laws.OneMore.{after_more}
-use Rattle.tree_row.specs.Slots.{slot_at}
-use Rattle.tree_row.specs.Worlds.{spot_at, EncodesWorld}
+use Rattle.tree_row.specs.Worlds.{EncodesWorld}
 use Rattle.tree_row.specs.OpeningRow.{opening_row}
 use Rattle.tree_row.specs.laws.OpeningRow as opening_row_is
 use Rattle.row_rule.specs.declared.cell.Cell.{Cell}
@@ -114,7 +113,7 @@ low_after next version (change.Rename old new) h = omega arith
 module _ (capacity : ℕ) (cells : List ℕ) (next version : ℕ) (history : List Change) (set : ℕ)
     (k : IsKept capacity cells next version history None set) (change : Change) where
   abbrev world : World
-  world = record { tree = k.tree; named = spot_at (slot_at cells); sound = tree_after_well capacity history k.tree k.made }
+  world = world_after capacity history cells k.tree k.made
 
   stands : EncodesWorld capacity cells world
   stands = record { tree = k.encodes; named = λ s. refl }

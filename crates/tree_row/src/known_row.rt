@@ -21,12 +21,13 @@ pub struct KnownRow {
 impl Model for KnownRow {
     ghost use Rattle.std.specs.Prelude.{◌≡◌, ◌≤◌, ℕ, List, length};
     ghost use Rattle.tree_row.specs.Rows.{row_length};
+    ghost use Rattle.tree_row.specs.declared.cells.TheConstants.{MOST_ENTRIES};
 
     ghost Value = { ℕ × List ℕ };
 
     ghost view = { λ r. (r.capacity, r.cells.items) };
 
-    ghost invariant = { λ r. (r.capacity ≤ 16384) × (length r.cells.items ≡ row_length r.capacity) };
+    ghost invariant = { λ r. (r.capacity ≤ MOST_ENTRIES) × (length r.cells.items ≡ row_length r.capacity) };
 }
 
 impl KnownRow {
