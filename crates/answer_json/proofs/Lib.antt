@@ -1,3 +1,3 @@
-pub mod NameCases
-pub mod PassedMembers
-pub mod JoinedVerdicts
+mod NameCases
+mod PassedMembers
+mod JoinedVerdicts

@@ -102,7 +102,7 @@ fn front_of_match(alloc: Global, look_ups: Option<u128>) -> Result<String, NoMem
 }
 
 /// The object with the other members.
-#[tactic(auto, using(crate::proofs::NoFloats::no_float_in_match))]
+#[tactic(auto, using(crate::specs::laws::NoFloats::no_float_in_match))]
 fn rest_of_match(alloc: Global, verdict: Verdict, steps: u64) -> Result<Value, NoMemory>
     ensures value { IfOk result (λ value. view value ≡ rest_of_match verdict steps) }
     ensures integers { IfOk result (λ value. has_float (view value) ≡ false) }

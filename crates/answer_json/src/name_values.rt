@@ -10,7 +10,7 @@ use serde_json::Value;
 use std::alloc::{AllocError, Global};
 
 /// A name, or another text, as a JSON value: a string if its bytes are UTF-8, otherwise an array of their numbers.
-#[tactic(auto, using(crate::proofs::NoFloats::no_float_in_name))]
+#[tactic(auto, using(crate::specs::laws::NoFloats::no_float_in_name))]
 pub fn name_value(alloc: Global, name: &[u8]) -> Result<Value, NoMemory>
     ensures value { IfOk result (λ value. view value ≡ name_value name.now) }
     ensures integers { IfOk result (λ value. has_float (view value) ≡ false) }

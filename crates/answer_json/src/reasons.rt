@@ -19,7 +19,7 @@ use std::alloc::{AllocError, Global};
 
 /// The rule with this number: `{"line":7,"number":3,"text":"\"/home/*/**\" rw,"}`, with its line in the text that the profile was
 /// read from.
-#[tactic(auto, using(crate::proofs::NoFloats::no_float_in_rule))]
+#[tactic(auto, using(crate::specs::laws::NoFloats::no_float_in_rule))]
 pub fn rule_object(
     alloc: Global,
     text: &[u8],

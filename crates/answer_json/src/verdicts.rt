@@ -16,7 +16,7 @@ use serde_json::{Value, json};
 use std::alloc::{AllocError, Global};
 
 /// A verdict: `{"missing":null,"rule":3,"verdict":"denied"}`, or with the letters for which there is no rule.
-#[tactic(auto, using(crate::proofs::NoFloats::no_float_in_verdict))]
+#[tactic(auto, using(crate::specs::laws::NoFloats::no_float_in_verdict))]
 pub fn verdict_object(alloc: Global, verdict: Verdict) -> Result<Value, NoMemory>
     ensures value { IfOk result (λ value. view value ≡ verdict_object verdict) }
     ensures integers { IfOk result (λ value. has_float (view value) ≡ false) }
@@ -32,7 +32,7 @@ pub fn verdict_object(alloc: Global, verdict: Verdict) -> Result<Value, NoMemory
 
 /// What a profile makes of a name and of the permissions that are asked for it, and why: the verdict, with the member `reasons`
 /// ([`reasons_array`]).
-#[tactic(auto, using(crate::proofs::NoFloats::no_float_in_explanation))]
+#[tactic(auto, using(crate::specs::laws::NoFloats::no_float_in_explanation))]
 pub fn explanation_object(
     alloc: Global,
     text: &[u8],

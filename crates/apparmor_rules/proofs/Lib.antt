@@ -1,8 +1,8 @@
 mod Decimals
-pub mod SomeElements
-pub mod SomeHits
-pub mod ChangeKinds
-pub mod RestatedRules
-pub mod RestatedVerdicts
-pub mod RealChanges
-pub mod ChangeParts
+mod SomeElements
+mod SomeHits
+mod ChangeKinds
+mod RestatedRules
+mod RestatedVerdicts
+mod RealChanges
+mod ChangeParts

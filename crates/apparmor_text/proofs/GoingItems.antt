@@ -22,9 +22,9 @@ use Rattle.apparmor_words.specs.Assignments.{past_use, past_separators, line_end
 use Rattle.apparmor_text.specs.Assignments.{separators_part, values_at, values_part, white_part, operator_part, assignment_part}
 use Rattle.apparmor_words.specs.laws.Shorter.{statement_end_shorter, boolean_shorter, leading_white, use_shorter}
 use Rattle.apparmor_words.specs.laws.Steps.{bind_ok, chosen, ok_is, not_ok}
-use Rattle.apparmor_text.proofs.Progress.{Goes, going_stays, going_on, going_taken}
-use Rattle.apparmor_text.proofs.GoingWords.{Shortens, shorter_on, on_shorter, shortens_to, front_taken, blank_goes}
-use Rattle.apparmor_text.proofs.GoingWords.{word_shortens, name_shortens, literal_goes}
+use Rattle.apparmor_text.specs.laws.Progress.{Goes, going_stays, going_on, going_taken}
+use Rattle.apparmor_text.specs.laws.GoingWords.{Shortens, shorter_on, on_shorter, shortens_to, front_taken, blank_goes}
+use Rattle.apparmor_text.specs.laws.GoingWords.{word_shortens, name_shortens, literal_goes}
 
 -- ---- statements
 

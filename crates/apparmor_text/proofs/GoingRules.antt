@@ -29,9 +29,9 @@ use Rattle.apparmor_text.specs.Rules.{is_all_rule, guarded_body, file_rule, link
 use Rattle.apparmor_text.specs.Rules.{qualified_item, runs_apart, rule_item}
 use Rattle.apparmor_text.specs.Texts.{inner_item, outer_item, item_at}
 use Rattle.apparmor_words.specs.laws.Steps.{bind_ok, chosen, ok_is, not_ok}
-use Rattle.apparmor_text.proofs.Progress.{Goes, going_stays, going_on, going_taken}
-use Rattle.apparmor_text.proofs.GoingWords.{Shortens, shorter_on, on_shorter, shortens_taken, blank_goes, blank_shortens, gap_goes}
-use Rattle.apparmor_text.proofs.GoingWords.{path_shortens, literal_goes}
+use Rattle.apparmor_text.specs.laws.Progress.{Goes, going_stays, going_on, going_taken}
+use Rattle.apparmor_text.specs.laws.GoingWords.{Shortens, shorter_on, on_shorter, shortens_taken, blank_goes, blank_shortens, gap_goes}
+use Rattle.apparmor_text.specs.laws.GoingWords.{path_shortens, literal_goes}
 use Rattle.apparmor_text.proofs.GoingItems.{statement_shortens, boolean_shortens, named_head_shortens, profile_head_shortens}
 use Rattle.apparmor_text.proofs.GoingItems.{hat_head_shortens, caret_head_shortens, assignment_shortens}
 

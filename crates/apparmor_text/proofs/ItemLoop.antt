@@ -9,7 +9,7 @@ use Rattle.apparmor_text.specs.Parts.{PartValue, ItemValue, bytes_of_parts}
 use Rattle.apparmor_words.specs.Steps.{Stop}
 use Rattle.apparmor_text.specs.Readings.{Reading}
 use Rattle.apparmor_text.specs.Texts.{item_at, behind_item, ReadsFrom, stops, goes_on}
-use Rattle.apparmor_text.proofs.GoingWords.{front_taken}
+use Rattle.apparmor_text.specs.laws.GoingWords.{front_taken}
 use Rattle.apparmor_text.proofs.GoingRules.{item_shortens}
 
 -- what is read from here on comes after these items

@@ -1,7 +1,5 @@
-pub mod Progress
-pub mod GoingWords
-pub mod GoingItems
-pub mod GoingRules
-pub mod WholeTexts
-pub mod ValueLoop
-pub mod ItemLoop
+mod GoingItems
+mod GoingRules
+mod WholeTexts
+mod ValueLoop
+mod ItemLoop

@@ -6,8 +6,8 @@ use Rattle.apparmor_text.specs.Readings.{Reading}
 use Rattle.apparmor_text.specs.WordParts.{word_part}
 use Rattle.apparmor_words.specs.Assignments.{line_ends}
 use Rattle.apparmor_text.specs.Assignments.{separators_part, values_at}
-use Rattle.apparmor_text.proofs.Progress.{going_shortens}
-use Rattle.apparmor_text.proofs.GoingWords.{word_shortens}
+use Rattle.apparmor_text.specs.laws.Progress.{going_shortens}
+use Rattle.apparmor_text.specs.laws.GoingWords.{word_shortens}
 use Rattle.apparmor_text.proofs.GoingItems.{separators_go}
 
 -- a value takes something

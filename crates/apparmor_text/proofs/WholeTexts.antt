@@ -9,7 +9,7 @@ use Rattle.apparmor_text.specs.Parts.{PartValue, ItemValue, bytes_of_parts, byte
 use Rattle.apparmor_words.specs.Steps.{Stop, syntax}
 use Rattle.apparmor_text.specs.Readings.{Reading}
 use Rattle.apparmor_text.specs.Texts.{item_at, behind_item, may_end, ReadsFrom, ends, lacks, stops, goes_on}
-use Rattle.apparmor_text.proofs.GoingWords.{Shortens}
+use Rattle.apparmor_text.specs.laws.GoingWords.{Shortens}
 use Rattle.apparmor_text.proofs.GoingRules.{item_shortens}
 
 abbrev start_of : ℕ → List ℕ → Reading

@@ -8,3 +8,4 @@ pub mod Rules
 pub mod Texts
 pub mod Laws
 pub mod inner
+pub mod laws

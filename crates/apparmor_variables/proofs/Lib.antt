@@ -1,19 +1,19 @@
-pub mod TextLists
+mod TextLists
 pub mod Places
 pub mod PlaceSteps
-pub mod Gets
-pub mod KnownLists
-pub mod WaySteps
-pub mod WayMade
-pub mod FirstValue
-pub mod WayShort
-pub mod AddingSteps
-pub mod PathSteps
-pub mod ListLaws
-pub mod ProblemLaws
+mod Gets
+mod KnownLists
+mod WaySteps
+mod WayMade
+mod FirstValue
+mod WayShort
+mod AddingSteps
+mod PathSteps
+mod ListLaws
+mod ProblemLaws
 pub mod FewLevels
 pub mod PathLaws
 pub mod CountLaws
-pub mod CountSteps
-pub mod SlashLaws
-pub mod WholeLaws
+mod CountSteps
+mod SlashLaws
+mod WholeLaws

@@ -151,7 +151,7 @@ fn flag_length(bytes: &[u8]) -> usize
 }
 
 /// Returns the flag at the front.
-#[tactic(auto, using(crate::proofs::Runs::leading_cut))]
+#[tactic(auto, using(rule_reader::specs::laws::ReadRuns::leading_cut))]
 fn flag_here(bytes: &[u8]) -> &[u8]
     ensures { result.now ≡ leading is_flag_byte bytes.now }
 {

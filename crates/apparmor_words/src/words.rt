@@ -207,7 +207,7 @@ fn word_length(bytes: &[u8]) -> usize
 }
 
 /// Returns the word at the front, of letters, digits and `_` beginning with a letter, and what is left after it.
-#[tactic(auto, using(crate::proofs::Runs::leading_cut))]
+#[tactic(auto, using(rule_reader::specs::laws::ReadRuns::leading_cut))]
 pub fn cut_word(bytes: &[u8]) -> Option<(&[u8], &[u8])>
     ensures none { result ≡ None → word bytes.now ≡ [] }
     ensures some { IfSome result (λ x. (x.0.now ≡ word bytes.now) × (x.1.now ≡ after_word bytes.now) × (0 < length x.0.now)) }

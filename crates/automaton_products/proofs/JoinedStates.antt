@@ -13,8 +13,8 @@ use Rattle.automaton_rows.specs.laws.RowLaws.{row_stays, target_stays, row_some}
 use Rattle.automaton_products.specs.declared.pairs.Pair.{Pair}
 use Rattle.automaton_products.specs.Products.{next_pair, AreFewPairs, Keeps, joined}
 use Rattle.automaton_products.specs.ProductStates.{IsJoinedRow, AreStates}
-use Rattle.automaton_products.proofs.PairNumbers.{get_stays, get_last}
-use Rattle.automaton_products.proofs.PairLaws.{kept_at}
+use Rattle.automaton_products.specs.laws.PairNumbers.{get_stays, get_last}
+use Rattle.automaton_products.specs.laws.PairLaws.{kept_at}
 
 -- a row begins within the ranges
 row_begins : (ranges : List TargetRange) (first : ℕ) → IsRowFrom 0 (drop first ranges) → first ≤ length ranges

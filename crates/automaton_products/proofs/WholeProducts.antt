@@ -11,7 +11,7 @@ use Rattle.automaton_rows.specs.laws.RowLists.{row_at, rows_long, target_at, tar
 use Rattle.automaton_products.specs.declared.pairs.Pair.{Pair}
 use Rattle.automaton_products.specs.Products.{pair, dead_pair, start_pair, next_pair, IsMet, IsProduct}
 use Rattle.automaton_products.specs.ProductStates.{AreStates}
-use Rattle.automaton_products.proofs.PairLaws.{dead_next, after_there}
+use Rattle.automaton_products.specs.laws.PairLaws.{dead_next, after_there}
 
 abbrev pub tables : List TargetRange → List ℕ → List Record → ℕ → Automaton
 tables ranges firsts records start = record { rows = rows_of ranges firsts; records = records; start = start }

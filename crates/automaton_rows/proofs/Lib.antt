@@ -1,3 +1,3 @@
-pub mod DeadAutomaton
-pub mod RowReads
-pub mod StatesAfter
+mod DeadAutomaton
+mod RowReads
+mod StatesAfter

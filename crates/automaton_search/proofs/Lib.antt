@@ -1,6 +1,6 @@
-pub mod NameLaws
-pub mod TrailNames
-pub mod WalkLaws
-pub mod WalkSteps
-pub mod ThreeStates
-pub mod VisitLaws
+mod NameLaws
+mod TrailNames
+mod WalkLaws
+mod WalkSteps
+mod ThreeStates
+mod VisitLaws

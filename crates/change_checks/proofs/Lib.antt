@@ -1,4 +1,4 @@
-pub mod Faults
-pub mod Climbs
-pub mod Files
-pub mod Replacement
+mod Faults
+mod Climbs
+mod Files
+mod Replacement

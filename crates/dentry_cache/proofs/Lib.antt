@@ -1,7 +1,7 @@
-pub mod RowSteps
-pub mod SetCells
-pub mod KeeperParts
-pub mod First
-pub mod SeenWalks
-pub mod Writers
-pub mod Tallied
+mod RowSteps
+mod SetCells
+mod KeeperParts
+mod First
+mod SeenWalks
+mod Writers
+mod Tallied

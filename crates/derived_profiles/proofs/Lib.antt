@@ -1,1 +1,1 @@
-pub mod RuleLaws
+mod RuleLaws

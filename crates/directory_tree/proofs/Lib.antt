@@ -1,23 +1,23 @@
-pub mod Kept
+mod Kept
 pub mod Depth
 pub mod Texts
-pub mod Links
+mod Links
 pub mod Walks
-pub mod NodeKinds
+mod NodeKinds
 pub mod Presence
 pub mod Drops
-pub mod Moves
-pub mod Renames
+mod Moves
+mod Renames
 pub mod Changes
 pub mod Placement
-pub mod Reached
-pub mod Linked
-pub mod LinkCounts
-pub mod Descent
+mod Reached
+mod Linked
+mod LinkCounts
+mod Descent
 pub mod Actions
-pub mod Origins
-pub mod Lives
+mod Origins
+mod Lives
 pub mod Accepted
-pub mod Fronts
-pub mod Renamed
+mod Fronts
+mod Renamed
 pub mod Histories

@@ -6,7 +6,7 @@ use Rattle.std.specs.List.{list_any, slice_split, onto_first}
 use Rattle.std.proofs.lemmas.List.{append-nil, length-append, get_or_at}
 use Rattle.std.proofs.lemmas.List.Elements.{filter-append}
 use Rattle.names.specs.Paths.{is_slash, is_empty, filled_parts, ends_with_slash}
-use Rattle.names.proofs.PathLaws.{split_joined, ends_joined, none_passes}
+use Rattle.names.specs.laws.PathLaws.{split_joined, ends_joined, none_passes}
 use Rattle.directory_tree.specs.Components.{slash, dot, is_filled, step_of, steps_of}
 use Rattle.std.proofs.lemmas.Bool.{or_parts}
 

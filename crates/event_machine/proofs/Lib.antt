@@ -1,12 +1,11 @@
-pub mod Runs
-pub mod Calls
-pub mod Rightly
-pub mod Deeds
-pub mod Once
-pub mod Memory
-pub mod Told
-pub mod OneCall
-pub mod Examples
-pub mod NewDirectory
-pub mod Disturbed
-pub mod Props
+mod Calls
+mod Rightly
+mod Deeds
+mod Once
+mod Memory
+mod Told
+mod OneCall
+mod Examples
+mod NewDirectory
+mod Disturbed
+mod Props

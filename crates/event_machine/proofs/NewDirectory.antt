@@ -15,7 +15,7 @@ use Rattle.change_checks.specs.declared.act.NewNode.TheVariants as new
 use Rattle.tree_row.specs.Slots.{text_at, packed}
 use Rattle.row_index.specs.Places.{around, index_length}
 use Rattle.row_index.specs.Hashes.{home}
-use Rattle.row_index.proofs.Rounds.{around_within}
+use Rattle.row_index.specs.laws.Rounds.{around_within}
 use Rattle.row_index.specs.laws.Homes.{home_within}
 use Rattle.row_index.specs.laws.Sizes.{index_some}
 use Rattle.tree_row.specs.Rows.{row_length, index_base, Encodes}

@@ -11,7 +11,7 @@ use Rattle.tree_row.specs.Slots.{Slot, entry_at, slot_at, IsUsed, IsRootSlot, Is
 use Rattle.row_index.specs.Places.{around, index_length}
 use Rattle.row_index.specs.Index.{IsFound}
 use Rattle.row_index.specs.Edits.{index_at}
-use Rattle.row_index.proofs.Rounds.{around_within, around_apart}
+use Rattle.row_index.specs.laws.Rounds.{around_within, around_apart}
 use Rattle.row_index.specs.laws.Homes.{home_within}
 use Rattle.row_index.specs.laws.Sizes.{index_some}
 use Rattle.tree_row.specs.Rows.{EncodesSlots, Encodes, IsIndexed, index_base, homes_in, row_length}

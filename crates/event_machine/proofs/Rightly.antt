@@ -28,7 +28,7 @@ use Rattle.event_machine.specs.Rule.{view_of, KeepsRule}
 use Rattle.event_machine.specs.Right.{Span, Happened, IsTreeVersion, IsPolicyVersion, IsCount, IsRight}
 use Rattle.directory_tree.specs.laws.Rooms.{roomy_after}
 use Rattle.event_machine.specs.laws.Ruled.{first_kept, fits_at}
-use Rattle.event_machine.proofs.Runs.{by_steps}
+use Rattle.event_machine.specs.laws.Runs.{by_steps}
 use Rattle.event_machine.proofs.Calls.{IsCall, AreCalls, Rechecked, Unpolled, takes_calls}
 
 pub calls_kept : (capacity : ℕ) (events : List Event) (answers : List (ℕ × Answer)) (m : Machine) → Legal capacity events answers m →

@@ -7,7 +7,7 @@ use Rattle.event_machine.specs.Machine.Event.{close_change, publish}
 use Rattle.event_machine.specs.Takes.{Answers, Takes}
 use Rattle.event_machine.specs.Runs.{told_by, Runs, Legal}
 use Rattle.event_machine.specs.Right.{IsToldIn}
-use Rattle.event_machine.proofs.Runs.{run_snoc}
+use Rattle.event_machine.specs.laws.Runs.{run_snoc}
 use Rattle.event_machine.proofs.Rightly.{all_right}
 
 no_cons : {A : Type 0} (x : A) (xs : List A) → [] ≡ x ∷ xs → ⊥

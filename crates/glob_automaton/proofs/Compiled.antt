@@ -4,7 +4,7 @@ use Rattle.std.proofs.Common.{slice_index_or, IsTrue, append_assoc, append-nil, 
 use Rattle.std.specs.List.{Contains}
 use Rattle.names.specs.declared.permissions.Permission.{Permission}
 use Rattle.names.specs.Permissions.{has}
-use Rattle.rule_globs.proofs.Behind.{iff_trans}
+use Rattle.rule_globs.specs.laws.Behind.{iff_trans}
 use Rattle.rule_globs.specs.Glob.{Glob, places}
 use Rattle.rule_profile.specs.Profile.{RuleValue, pattern}
 use Rattle.rule_globs.specs.Verdict.{Hits, IsRuleAt}

@@ -7,7 +7,7 @@ use Rattle.names.specs.declared.record.LeastHits.{LeastHits}
 use Rattle.names.specs.Least.{hits_of, record_of, no_hit}
 use Rattle.names.specs.Hits.{no_hits}
 use Rattle.automaton_rows.specs.Automata.{Automaton, IsWhole, state_after}
-use Rattle.automaton_products.proofs.PairLaws.{after_there}
+use Rattle.automaton_products.specs.laws.PairLaws.{after_there}
 use Rattle.glob_automaton.specs.Parts.{IsAutomatonOfPart}
 
 pub dead_part : ((hits : Permission → LeastHits) (p : Permission) → hits_of (record_of hits) p ≡ hits p) →

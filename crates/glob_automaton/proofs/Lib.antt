@@ -1,49 +1,49 @@
-pub mod LeastSteps
-pub mod ToldLaws
-pub mod HitSteps
-pub mod WordBits
-pub mod PlaceLists
-pub mod ClosureSteps
-pub mod GatheringSteps
-pub mod StateLists
-pub mod ChartLaws
-pub mod DrawingLaws
-pub mod DrawingItems
-pub mod ChartRules
-pub mod PatternPlaces
-pub mod RuleNumbers
-pub mod LiveNumbers
-pub mod LiveByParts
-pub mod ReachedSets
-pub mod NamePrefixes
-pub mod SetCounts
-pub mod OneRecord
-pub mod EmptySets
-pub mod Compiled
-pub mod Splits
-pub mod AlikeBytes
-pub mod Decisions
-pub mod LiveTests
-pub mod SetsGoOn
-pub mod NewSets
-pub mod CountedPrefixes
-pub mod CountSearch
-pub mod SetSteps
-pub mod SetPlaces
-pub mod NamedSteps
-pub mod EdgeSteps
-pub mod RowSteps
-pub mod RangeSteps
-pub mod BuiltStates
-pub mod Prefixes
-pub mod JoinedLeast
-pub mod SideBySide
-pub mod WholeParts
-pub mod DeadPart
-pub mod AloneRecords
-pub mod EndRecords
-pub mod LeafLaws
-pub mod SameCharts
-pub mod WithHits
-pub mod BuiltPaths
-pub mod EqualCharts
+mod LeastSteps
+mod ToldLaws
+mod HitSteps
+mod WordBits
+mod PlaceLists
+mod ClosureSteps
+mod GatheringSteps
+mod StateLists
+mod ChartLaws
+mod DrawingLaws
+mod DrawingItems
+mod ChartRules
+mod PatternPlaces
+mod RuleNumbers
+mod LiveNumbers
+mod LiveByParts
+mod ReachedSets
+mod NamePrefixes
+mod SetCounts
+mod OneRecord
+mod EmptySets
+mod Compiled
+mod Splits
+mod AlikeBytes
+mod Decisions
+mod LiveTests
+mod SetsGoOn
+mod NewSets
+mod CountedPrefixes
+mod CountSearch
+mod SetSteps
+mod SetPlaces
+mod NamedSteps
+mod EdgeSteps
+mod RowSteps
+mod RangeSteps
+mod BuiltStates
+mod Prefixes
+mod JoinedLeast
+mod SideBySide
+mod WholeParts
+mod DeadPart
+mod AloneRecords
+mod EndRecords
+mod LeafLaws
+mod SameCharts
+mod WithHits
+mod BuiltPaths
+mod EqualCharts

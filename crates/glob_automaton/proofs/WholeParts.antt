@@ -19,7 +19,7 @@ use Rattle.glob_automaton.proofs.LiveByParts.{LeftFirst}
 use Rattle.glob_automaton.proofs.LiveNumbers.{LiveAfterByte}
 use Rattle.automaton_products.specs.declared.pairs.Pair.{Pair}
 use Rattle.automaton_products.specs.Products.{pair, dead_pair, ArePairs, IsProductFault}
-use Rattle.automaton_products.proofs.PairLaws.{after_there}
+use Rattle.automaton_products.specs.laws.PairLaws.{after_there}
 use Rattle.glob_automaton.specs.Parts.{SameIn, NoneIn, HitsIn, AreMoreThanIn, IsAutomatonOfPart, BeginWithSlashes}
 use Rattle.glob_automaton.proofs.Prefixes.{collected, all_of, prefix_bytes, prefix_or_none}
 use Rattle.glob_automaton.proofs.SideBySide.{same_first, same_second, none_first, none_second}

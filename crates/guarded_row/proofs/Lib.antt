@@ -1,3 +1,2 @@
-pub mod ThreadSafety
 mod LastTries
 mod Opened

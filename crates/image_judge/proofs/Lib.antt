@@ -1,3 +1,3 @@
-pub mod Sums
-pub mod Verdicts
-pub mod Parts
+mod Sums
+mod Verdicts
+mod Parts

@@ -1,17 +1,17 @@
-pub mod QuotedWords
-pub mod LettersRead
-pub mod PartsRead
-pub mod RulesRead
-pub mod HeadRead
-pub mod ItemsRead
-pub mod PlainTexts
-pub mod Names
-pub mod Lists
-pub mod Imported
-pub mod RuleItems
-pub mod Cuts
-pub mod ScopesAgain
-pub mod OwnImports
+mod QuotedWords
+mod LettersRead
+mod PartsRead
+mod RulesRead
+mod HeadRead
+mod ItemsRead
+mod PlainTexts
+mod Names
+mod Lists
+mod Imported
+mod RuleItems
+mod Cuts
+mod ScopesAgain
+mod OwnImports
 mod AddedTold
 mod AllTold
 mod ByBraces

@@ -12,7 +12,7 @@ use Rattle.apparmor_text.specs.declared.part.PartKind.TheVariants as parts
 use Rattle.apparmor_text.specs.Parts.{PartValue}
 use Rattle.apparmor_text.specs.Readings.{Reading, taken, taken_to}
 use Rattle.apparmor_text.specs.WordParts.{blank_part, word_part}
-use Rattle.apparmor_text.proofs.GoingWords.{front_taken}
+use Rattle.apparmor_text.specs.laws.GoingWords.{front_taken}
 use Rattle.rule_profile.specs.Readable.{are_name_bytes}
 use Rattle.import_laws.specs.CanonicalItems.{part_of, in_quotes, ends_plainly}
 use Rattle.import_laws.proofs.QuotedWords.{word_ends}

@@ -17,7 +17,7 @@ use Rattle.rule_profile.specs.Readable.{is_path}
 use Rattle.rule_making.specs.Choices.{node_chooses, chooses, all_choose}
 use Rattle.rule_making.specs.Leads.{group_leads, slash_leads, front_leads, leads, led}
 use Rattle.rule_making.specs.laws.ChoiceLaws.{chooses-Group}
-use Rattle.rule_making.proofs.SameNames.{parts_of}
+use Rattle.rule_making.specs.laws.SameNames.{parts_of}
 use Rattle.import_profile.specs.Groups.{choose_from, groups_choose, Parts, in_front, behind_comma, parts_from, leads_from, led_from}
 
 group_row : (alternatives : List (Vec Item Global)) (rest : List Token) →

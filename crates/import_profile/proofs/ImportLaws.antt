@@ -14,7 +14,7 @@ use Rattle.rule_profile.specs.Readable.{begins_with_slash, is_path}
 use Rattle.rule_writer.proofs.CanonItems.{path_parts}
 use Rattle.apparmor_variables.specs.Slashes.{one_slash}
 use Rattle.rule_making.specs.Leads.{led}
-use Rattle.rule_making.proofs.SameNames.{led_same}
+use Rattle.rule_making.specs.laws.SameNames.{led_same}
 use Rattle.import_profile.specs.Groups.{groups_choose, leads_from, led_from}
 use Rattle.import_profile.specs.ImportedPaths.{settled_leads, leads_of_read, leads_of_text, imported_paths}
 use Rattle.import_profile.specs.OneWay.{is_read_one_way}

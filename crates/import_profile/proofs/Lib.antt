@@ -1,9 +1,9 @@
-pub mod GroupLaws
-pub mod MadeItems
-pub mod Reread
+mod GroupLaws
+mod MadeItems
+mod Reread
 pub mod ImportLaws
 pub mod ExpandedTexts
-pub mod Gathers
-pub mod ToldOutcomes
+mod Gathers
+mod ToldOutcomes
 pub mod ToldShapes
-pub mod TooMany
+mod TooMany

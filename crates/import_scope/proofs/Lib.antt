@@ -1,5 +1,5 @@
-pub mod VariablePlaces
-pub mod Opened
-pub mod FaultLaws
-pub mod Passes
-pub mod AskedPaths
+mod VariablePlaces
+mod Opened
+mod FaultLaws
+mod Passes
+mod AskedPaths

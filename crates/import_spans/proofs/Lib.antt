@@ -1,6 +1,6 @@
 mod SpanLists
-pub mod CutSteps
+mod CutSteps
 pub mod WholeCuts
 pub mod ToldRules
 mod ExactCuts
-pub mod ByBraces
+mod ByBraces

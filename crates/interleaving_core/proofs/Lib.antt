@@ -1,8 +1,8 @@
-pub mod AllSessions
-pub mod Lawful
-pub mod Steps
-pub mod TestedChanges
-pub mod Consistency
-pub mod GivenAnswers
-pub mod PassedEvents
-pub mod Lifts
+mod AllSessions
+mod Lawful
+mod Steps
+mod TestedChanges
+mod Consistency
+mod GivenAnswers
+mod PassedEvents
+mod Lifts

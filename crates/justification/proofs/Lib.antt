@@ -1,6 +1,6 @@
-pub mod OpenEnds
-pub mod Lookups
-pub mod Agreement
-pub mod Current
-pub mod Growth
-pub mod SameVerdicts
+mod OpenEnds
+mod Lookups
+mod Agreement
+mod Current
+mod Growth
+mod SameVerdicts

@@ -1,1 +1,1 @@
-pub mod Entries
+mod Entries

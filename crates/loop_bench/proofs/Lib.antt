@@ -1,1 +1,1 @@
-pub mod Rounds
+mod Rounds

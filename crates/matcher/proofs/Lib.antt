@@ -1,2 +1,2 @@
-pub mod FaultlessTables
-pub mod ToldByTables
+mod FaultlessTables
+mod ToldByTables

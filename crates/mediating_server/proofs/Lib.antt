@@ -1,1 +1,1 @@
-pub mod ThreadSafety
+mod ThreadSafety

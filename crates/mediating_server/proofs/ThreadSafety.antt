@@ -10,8 +10,8 @@ use denote.Param.SendFields.{declared_send, as_row_send}
 use denote.Struct.Field.{row_field}
 use denote.Struct.Tuple.{TupleAt, type_at}
 use Rattle.std.proofs.Crossing as boxes
-use Rattle.path_session.proofs.ThreadSafety.{session_send}
-use Rattle.path_guard.proofs.ThreadSafety.{guard_sync}
+use Rattle.path_session.specs.laws.ThreadSafety.{session_send}
+use Rattle.path_guard.specs.laws.ThreadSafety.{guard_sync}
 use Rattle.guarded_row.specs.declared.row.Row as row
 use Rattle.mediating_server.specs.contracts.desk.Requests as requests
 use Rattle.mediating_server.specs.contracts.desk.Desk as desk

@@ -1,5 +1,5 @@
-pub mod Asked
-pub mod ToldLaws
-pub mod RecordVerdicts
-pub mod LinkJudgments
-pub mod MapSteps
+mod Asked
+mod ToldLaws
+mod RecordVerdicts
+mod LinkJudgments
+mod MapSteps

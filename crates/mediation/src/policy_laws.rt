@@ -4,7 +4,7 @@ ghost use Rattle.mediation.specs.Deeds.{Deed, policy_after, published, removed};
 ghost use Rattle.mediation.specs.Judge.{Judge};
 
 /// What the last change says of a name holds, whatever was published before, and other names keep what they have.
-#[tactic(auto, using(crate::proofs::DeedLaws::after_both))]
+#[tactic(auto, using(crate::specs::laws::DeedLaws::after_both))]
 pub fn last_change_of_a_name_stands()
     ensures published { (deeds : List Deed) (name : List ℕ) (judge : Judge) →
         policy_after (deeds ++ published name judge ∷ []) name ≡ Some judge }

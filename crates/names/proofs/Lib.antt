@@ -1,7 +1,5 @@
-pub mod PathLemmas
-pub mod PathLaws
-pub mod PermsTests
-pub mod LeastSteps
-pub mod MissingSteps
-pub mod ToldLaws
-pub mod EqualRecords
+mod PermsTests
+mod LeastSteps
+mod MissingSteps
+mod ToldLaws
+mod EqualRecords

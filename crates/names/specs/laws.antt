@@ -4,3 +4,5 @@ pub mod LeastNumbers
 pub mod Records
 pub mod ByteKeys
 pub mod Results
+pub mod PathLemmas
+pub mod PathLaws

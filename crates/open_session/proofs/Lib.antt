@@ -1,11 +1,11 @@
-pub mod Chains
-pub mod Choices
-pub mod Refusals
-pub mod WordCounts
-pub mod Readings
-pub mod Tellings
-pub mod Stands
-pub mod Ruled
-pub mod WordsRead
-pub mod ReadingOn
-pub mod Decisions
+mod Chains
+mod Choices
+mod Refusals
+mod WordCounts
+mod Readings
+mod Tellings
+mod Stands
+mod Ruled
+mod WordsRead
+mod ReadingOn
+mod Decisions

@@ -1,1 +1,2 @@
 pub mod Publication
+pub mod laws

@@ -7,8 +7,8 @@ use Rattle.std.proofs.lemmas.List.{append-nil, map-append, length-append, drop_a
 use Rattle.std.proofs.lemmas.List.Elements.{filter-append}
 use Rattle.names.specs.declared.errors.Errno.TheVariants.{ELOOP}
 use Rattle.names.specs.Paths.{is_slash, is_empty, filled_parts, begins_with_slash, ends_with_slash, closing_component, components}
-use Rattle.names.proofs.PathLaws.{split_joined}
-use Rattle.names.proofs.PathLemmas.{some_component, ends_alike}
+use Rattle.names.specs.laws.PathLaws.{split_joined}
+use Rattle.names.specs.laws.PathLemmas.{some_component, ends_alike}
 use Rattle.directory_tree.specs.declared.node.Last.{Last}
 use Rattle.directory_tree.specs.Components.{Step, step_of, steps_of, slash, dot}
 use Rattle.directory_tree.specs.Components.Step.{Here, Up, Down}

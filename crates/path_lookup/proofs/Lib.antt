@@ -1,8 +1,8 @@
-pub mod Joined
-pub mod Arrivals
-pub mod WalkSteps
-pub mod NameParts
-pub mod OwnNames
-pub mod PlaceNames
-pub mod Splits
-pub mod ShortParts
+mod Joined
+mod Arrivals
+mod WalkSteps
+mod NameParts
+mod OwnNames
+mod PlaceNames
+mod Splits
+mod ShortParts

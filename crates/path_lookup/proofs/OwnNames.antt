@@ -9,7 +9,7 @@ use Rattle.std.proofs.lemmas.List.Sums.{prefix_len_passes, prefix_len_stops, pre
 use mathlib.Core.Logic.{dite}
 use native.Mathlib.Decide.{ℕ_discrete}
 use Rattle.names.specs.Paths.{is_slash}
-use Rattle.names.proofs.PathLemmas.{step_at_part, left_slash}
+use Rattle.names.specs.laws.PathLemmas.{step_at_part, left_slash}
 use Rattle.directory_tree.specs.Components.{slash, dot, dot_dot}
 use Rattle.directory_tree.specs.Tree.{Tree, Entry, WellFormed, find}
 use Rattle.directory_tree.specs.Walk.{Spot, spot_of}

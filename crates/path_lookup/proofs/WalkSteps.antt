@@ -5,7 +5,7 @@ use Rattle.std.specs.Prelude.{if◌then◌else◌, Result, Ok, Err, IfErr}
 use Rattle.std.specs.Result.{IsErrAnd}
 use Rattle.names.specs.declared.errors.Errno.{Errno}
 use Rattle.names.specs.Paths.{begins_with_slash, components}
-use Rattle.names.proofs.PathLemmas.{some_component}
+use Rattle.names.specs.laws.PathLemmas.{some_component}
 use Rattle.path_lookup.specs.declared.fault.WalkFault.{WalkFault}
 use Rattle.path_lookup.specs.declared.fault.WalkFault.TheVariants.{Refused, Torn}
 use Rattle.path_lookup.specs.declared.arrival.Arrival.TheVariants as arrival

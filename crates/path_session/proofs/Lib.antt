@@ -1,4 +1,3 @@
-pub mod SeenWalks
-pub mod ThreadSafety
-pub mod SharesKept
-pub mod KeptRight
+mod SeenWalks
+mod SharesKept
+mod KeptRight

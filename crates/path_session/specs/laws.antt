@@ -1,1 +1,2 @@
 pub mod KeeperStates
+pub mod ThreadSafety

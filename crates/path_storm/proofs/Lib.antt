@@ -1,7 +1,7 @@
-pub mod Closures
-pub mod Counts
-pub mod Logged
-pub mod OneCount
-pub mod Opened
-pub mod Pushed
-pub mod ThreadSafety
+mod Closures
+mod Counts
+mod Logged
+mod OneCount
+mod Opened
+mod Pushed
+mod ThreadSafety

@@ -2,8 +2,8 @@
 use denote.RattleType.{RattleType}
 use denote.Param.Send.{IsSend, IsSync, sendable}
 use Rattle.std.proofs.Crossing as boxes
-use Rattle.profile_registry.proofs.ThreadSafety.{any_send, any_sync}
-use Rattle.path_session.proofs.ThreadSafety.{session_send}
+use Rattle.profile_registry.specs.laws.ThreadSafety.{any_send, any_sync}
+use Rattle.path_session.specs.laws.ThreadSafety.{session_send}
 use Rattle.guarded_row.specs.declared.row.Row as row
 use Rattle.path_storm.specs.contracts.profiles.Profiles as profiles
 use Rattle.path_storm.specs.contracts.log.SessionLog as session_log

@@ -1,6 +1,5 @@
-pub mod EmptyKeys
-pub mod Mirrors
-pub mod Held
-pub mod Carried
-pub mod Entries
-pub mod Acts
+mod EmptyKeys
+mod Mirrors
+mod Held
+mod Carried
+mod Entries

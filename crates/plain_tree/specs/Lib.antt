@@ -1,3 +1,4 @@
 pub mod PlainEntry
 pub mod PlainLaws
 pub mod inner
+pub mod laws

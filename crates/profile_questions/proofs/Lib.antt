@@ -1,3 +1,3 @@
-pub mod LeastNames
-pub mod ReachedNames
-pub mod Representatives
+mod LeastNames
+mod ReachedNames
+mod Representatives

@@ -1,4 +1,4 @@
-pub mod StoreLookUps
-pub mod KeptRule
+mod StoreLookUps
+mod KeptRule
 pub mod ThreadSafety
-pub mod NewsRead
+mod NewsRead

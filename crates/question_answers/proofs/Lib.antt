@@ -1,8 +1,8 @@
-pub mod BelowLaws
-pub mod Passes
-pub mod LeastLists
-pub mod Noted
-pub mod CauseLaws
-pub mod Scan
-pub mod Translations
-pub mod KeyedNames
+mod BelowLaws
+mod Passes
+mod LeastLists
+mod Noted
+mod CauseLaws
+mod Scan
+mod Translations
+mod KeyedNames

@@ -5,9 +5,9 @@ use mir.Syntax.{Lifetime}
 use denote.Param.Send.{IsSend, IsSync, sendable}
 use denote.Struct.Field.{u64-field}
 use Rattle.std.proofs.Crossing as boxes
-use Rattle.profile_registry.proofs.ThreadSafety.{any_send, any_sync}
-use Rattle.path_session.proofs.ThreadSafety.{session_send}
-use Rattle.path_guard.proofs.ThreadSafety.{guard_sync}
+use Rattle.profile_registry.specs.laws.ThreadSafety.{any_send, any_sync}
+use Rattle.path_session.specs.laws.ThreadSafety.{session_send}
+use Rattle.path_guard.specs.laws.ThreadSafety.{guard_sync}
 use Rattle.test_parts.proofs.draws.Random.TheSendSync as random_crosses
 use Rattle.test_parts.proofs.rounds.Rounds.TheSendSync as rounds
 use Rattle.guarded_row.specs.declared.row.Row as row

@@ -5,7 +5,7 @@ use Rattle.std.specs.Prelude.{if◌then◌else◌}
 use mathlib.Core.Logic.{◌⊎◌, inl, inr}
 use Rattle.row_index.specs.Places.{around}
 use Rattle.row_index.specs.Edits.{index_at, with_word, swept, freed, passes, vacated, Inserts, Removes}
-use Rattle.row_index.proofs.Rounds.{around_within}
+use Rattle.row_index.specs.laws.Rounds.{around_within}
 
 -- cells before the index and after it
 abbrev pub IsOutside : ℕ → ℕ → ℕ → Type 0

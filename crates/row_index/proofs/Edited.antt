@@ -7,8 +7,8 @@ use mathlib.Core.Logic.{◌⊎◌, inl, inr}
 use Rattle.row_index.specs.Places.{around, way}
 use Rattle.row_index.specs.Index.{Indexes}
 use Rattle.row_index.specs.Edits.{index_at, with_word, swept, freed, passes, vacated, Inserts, Removes}
-use Rattle.row_index.proofs.Rounds.{around_back, around_more, around_way, around_within}
-use Rattle.row_index.proofs.Rounds.{way_apart, way_around, way_between, way_none, way_straight}
+use Rattle.row_index.specs.laws.Rounds.{around_back, around_more, around_way, around_within}
+use Rattle.row_index.specs.laws.Rounds.{way_apart, way_around, way_between, way_none, way_straight}
 use Rattle.row_index.proofs.Upkeep as keeping
 
 pub set_here : (row : List ℕ) (base p x : ℕ) → base + p < length row → index_at (with_word row base p x) base p ≡ x

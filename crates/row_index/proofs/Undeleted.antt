@@ -7,7 +7,7 @@ use mathlib.Core.Logic.{dite}
 use native.Mathlib.Decide.{ℕ_discrete}
 use Rattle.row_index.specs.Places.{around, way}
 use Rattle.row_index.specs.Edits.{index_at, with_word, freed, passes, vacated, Inserts, Removes}
-use Rattle.row_index.proofs.Rounds.{around_within, way_less, way_within}
+use Rattle.row_index.specs.laws.Rounds.{around_within, way_less, way_within}
 use Rattle.row_index.proofs.Edited.{passes_named, set_here, set_other, swept_other}
 
 -- no word of the index is deleted

@@ -5,7 +5,7 @@ use native.Mathlib.Decide.{ℕ_discrete}
 use Rattle.std.proofs.lemmas.Bool.{cases_lt, cases_order}
 use Rattle.row_index.specs.Places.{around, way}
 use Rattle.row_index.specs.Index.{IsFound, Indexes, IsVacancy, Ends}
-use Rattle.row_index.proofs.Rounds.{around_within, around_way, way_apart, way_around, way_on, way_within}
+use Rattle.row_index.specs.laws.Rounds.{around_within, around_way, way_apart, way_around, way_on, way_within}
 
 -- the word that a search finds, by its place
 pub found_place : (size : ℕ) (word : ℕ → ℕ) (h s : ℕ) → h < size → (p : ℕ) → p < size → word p ≡ s + 1

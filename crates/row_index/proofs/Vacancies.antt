@@ -10,7 +10,7 @@ use mathlib.Core.Logic.{inl, inr, dite}
 use native.Mathlib.Decide.{ℕ_discrete}
 use Rattle.row_index.specs.Places.{around}
 use Rattle.row_index.specs.Index.{Indexes}
-use Rattle.row_index.proofs.Rounds.{around_within, around_apart}
+use Rattle.row_index.specs.laws.Rounds.{around_within, around_apart}
 
 true_is_false : true ≡ false → ⊥
 true_is_false e = absurd (cc e)

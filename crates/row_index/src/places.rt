@@ -30,7 +30,7 @@ pub fn index_length(capacity: usize) -> usize
 }
 
 /// Returns the place after another; after the last one comes the first.
-#[tactic(auto, using(crate::proofs::Rounds::around_low, crate::proofs::Rounds::around_high))]
+#[tactic(auto, using(crate::specs::laws::Rounds::around_low, crate::specs::laws::Rounds::around_high))]
 pub fn next_place(size: usize, place: usize) -> usize
     requires { place < size }
     ensures next { result ≡ around size (place + 1) }
@@ -40,7 +40,7 @@ pub fn next_place(size: usize, place: usize) -> usize
 }
 
 /// Returns the place before another; before the first one comes the last.
-#[tactic(auto, using(crate::proofs::Rounds::around_low, crate::proofs::Rounds::around_high))]
+#[tactic(auto, using(crate::specs::laws::Rounds::around_low, crate::specs::laws::Rounds::around_high))]
 pub fn place_before(size: usize, place: usize) -> usize
     requires { place < size }
     ensures before { result ≡ around size (place + (size - 1)) }
@@ -50,7 +50,7 @@ pub fn place_before(size: usize, place: usize) -> usize
 }
 
 /// Returns how many places lie on the way from one place to another.
-#[tactic(auto, using(crate::proofs::Rounds::way_wrapped, crate::proofs::Rounds::way_straight))]
+#[tactic(auto, using(crate::specs::laws::Rounds::way_wrapped, crate::specs::laws::Rounds::way_straight))]
 fn way(size: usize, from: usize, to: usize) -> usize
     requires from { from < size }
     requires to { to < size }

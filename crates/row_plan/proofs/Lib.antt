@@ -1,18 +1,18 @@
 pub mod Drafts
-pub mod Drops
-pub mod Vacated
-pub mod FilledCells
-pub mod SettledSlots
-pub mod NewEntries
-pub mod Removals
-pub mod Placement
-pub mod Encoding
-pub mod IndexedRows
-pub mod Enactment
+mod Drops
+mod Vacated
+mod FilledCells
+mod SettledSlots
+mod NewEntries
+mod Removals
+mod Placement
+mod Encoding
+mod IndexedRows
+mod Enactment
 pub mod Encoded
-pub mod Moves
+mod Moves
 pub mod NodeNumbers
-pub mod Outcomes
-pub mod Lengths
-pub mod Losses
-pub mod OneAct
+mod Outcomes
+mod Lengths
+mod Losses
+mod OneAct

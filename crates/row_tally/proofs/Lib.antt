@@ -1,6 +1,6 @@
-pub mod WordBits
-pub mod Summaries
-pub mod Entries
-pub mod Notes
-pub mod Directories
-pub mod InitialTally
+mod WordBits
+mod Summaries
+mod Entries
+mod Notes
+mod Directories
+mod InitialTally

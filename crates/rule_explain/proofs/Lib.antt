@@ -1,6 +1,6 @@
-pub mod FirstHits
-pub mod ReasonLaws
-pub mod SoFar
-pub mod LineLaws
-pub mod ToldLaws
-pub mod VerdictLaws
+mod FirstHits
+mod ReasonLaws
+mod SoFar
+mod LineLaws
+mod ToldLaws
+mod VerdictLaws

@@ -7,7 +7,7 @@ use Rattle.std.proofs.lemmas.List.Folds.{list_all-append}
 use Rattle.std.proofs.lemmas.Bool.{and_parts, and_from}
 use Rattle.rule_globs.specs.Glob.{Glob, empty, one, run, cat, none, alt, fits, Takes, places, Live, LiveOrEnd}
 use Rattle.rule_globs.specs.Follow.{Numbers, Starts, TakesAt, Goes}
-use Rattle.rule_globs.proofs.Behind.{both_empty, split_last, last_alone, Live-below}
+use Rattle.rule_globs.specs.laws.Behind.{both_empty, split_last, last_alone, Live-below}
 
 -- the number of one of the pattern's own places that are live after the bytes
 abbrev OwnLive : Glob → ℕ → List ℕ → Numbers

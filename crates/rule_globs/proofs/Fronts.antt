@@ -6,7 +6,7 @@ use Rattle.rule_globs.specs.Glob.{Glob, ByteSet, one, cat, exactly, fits, Takes,
 use Rattle.rule_globs.specs.Meaning.{meaning, meaning_of}
 use Rattle.rule_globs.specs.declared.items.Item.{Item}
 use Rattle.rule_globs.specs.declared.items.Item.TheVariants as v
-use Rattle.rule_globs.proofs.Behind.{iff_trans}
+use Rattle.rule_globs.specs.laws.Behind.{iff_trans}
 use Rattle.rule_globs.specs.laws.MeaningLaws.{meaning-Byte}
 use Rattle.rule_globs.proofs.PassLaws.{left}
 

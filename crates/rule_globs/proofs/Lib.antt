@@ -1,11 +1,10 @@
-pub mod Behind
-pub mod Blocks
-pub mod ByteBits
-pub mod Sweeps
-pub mod WholeSweeps
-pub mod Weight
-pub mod PassLaws
-pub mod Fronts
-pub mod StepLaws
-pub mod FollowLaws
-pub mod OneVerdict
+mod Blocks
+mod ByteBits
+mod Sweeps
+mod WholeSweeps
+mod Weight
+mod PassLaws
+mod Fronts
+mod StepLaws
+mod FollowLaws
+mod OneVerdict

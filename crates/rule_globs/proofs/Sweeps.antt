@@ -9,8 +9,8 @@ use Rattle.rule_globs.specs.Glob.{Glob, ByteSet, empty, one, run, cat, none, alt
 use Rattle.rule_globs.specs.inner.Blocks.{taken}
 use Rattle.rule_globs.specs.inner.ByteBits.{has_bit}
 use Rattle.rule_globs.specs.inner.Sweep.{Pass, sweep, before_each, through, restart}
-use Rattle.rule_globs.proofs.Behind.{Behind, LiveAfter, iff_trans, iff_sym, one_behind, run_behind, run_live, one_live, empty_behind}
-use Rattle.rule_globs.proofs.Behind.{cat_left, cat_right, cat_behind, alt_left, alt_right, alt_behind}
+use Rattle.rule_globs.specs.laws.Behind.{Behind, LiveAfter, iff_trans, iff_sym, one_behind, run_behind, run_live, one_live, empty_behind}
+use Rattle.rule_globs.specs.laws.Behind.{cat_left, cat_right, cat_behind, alt_left, alt_right, alt_behind}
 use Rattle.rule_globs.proofs.Blocks.{bit_at-taken, before_first, before_next, run_before, through_bit}
 use Rattle.rule_globs.proofs.Blocks.{has_bit-and, has_bit-or, has_bit-zero}
 

@@ -9,7 +9,7 @@ use Rattle.std.proofs.Common.{drop-cons, zero-add, true≢false, length-append, 
 use Rattle.rule_globs.specs.Glob.{Glob, empty, one, run, cat, none, alt, fits, Takes, places, Live, LiveOrEnd}
 use Rattle.rule_globs.specs.inner.ByteBits.{has_bit}
 use Rattle.rule_globs.specs.inner.Sweep.{Pass, sweep}
-use Rattle.rule_globs.proofs.Behind.{Behind, LiveAfter, iff_trans, Live-below, both_empty}
+use Rattle.rule_globs.specs.laws.Behind.{Behind, LiveAfter, iff_trans, Live-below, both_empty}
 use Rattle.rule_globs.proofs.Blocks.{has_bit-zero, has_bit-one_suc}
 use Rattle.rule_globs.proofs.Sweeps.{sweep-holds, reached_last, Lit, Reached}
 

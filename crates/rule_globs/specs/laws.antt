@@ -3,3 +3,4 @@ pub mod MeaningLaws
 pub mod TokenLaws
 pub mod Cuts
 pub mod PlainLaws
+pub mod Behind

@@ -38,7 +38,7 @@ impl RulePath {
     ghost use Rattle.rule_globs.specs.Tokens.{tokens_of, pattern_of, all_full};
 
     /// The path with these items.
-    #[tactic(auto, using(crate::proofs::TokenLaws::room_of))]
+    #[tactic(auto, using(crate::specs::laws::TokenLaws::room_of))]
     pub fn new(items: Vec<Item>) -> RulePath
         requires full { IsTrue (all_full items.items) }
         requires few { length (tokens_of items.items) ≤ most_items }

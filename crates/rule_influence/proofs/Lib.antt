@@ -1,10 +1,10 @@
-pub mod CutRules
-pub mod LoneHits
-pub mod ReversedSets
-pub mod Entries
-pub mod Scans
-pub mod AddedNumbers
-pub mod CandidateLists
-pub mod StandingRules
-pub mod StandInLists
-pub mod CaseLists
+mod CutRules
+mod LoneHits
+mod ReversedSets
+mod Entries
+mod Scans
+mod AddedNumbers
+mod CandidateLists
+mod StandingRules
+mod StandInLists
+mod CaseLists

@@ -1,2 +1,2 @@
-pub mod VerdictSteps
-pub mod LinkLaws
+mod VerdictSteps
+mod LinkLaws

@@ -16,7 +16,7 @@ use Rattle.rule_making.specs.Leads.{can_be_split, ends_with, gives_slash, slash_
 use Rattle.rule_making.specs.Leads.{slash_leads, front_leads}
 use Rattle.rule_making.specs.Leads.{leads, led}
 use Rattle.rule_making.proofs.Stays.{slash_after, Stay, ItemStays, at_closing, at_between, row_stays, each_stays, all_stay, flag_free}
-use Rattle.rule_making.proofs.SameNames.{parts_of, opened, slash_row}
+use Rattle.rule_making.specs.laws.SameNames.{parts_of, opened, slash_row}
 
 each_within : (alternatives : List (Vec Item Global)) → EachWithin ItemStays alternatives
 each_within [] = tt

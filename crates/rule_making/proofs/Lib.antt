@@ -1,7 +1,6 @@
-pub mod GroupLaws
-pub mod SameNames
-pub mod Stays
-pub mod LedStays
-pub mod CopyLaws
-pub mod Walks
-pub mod WalkTests
+mod GroupLaws
+mod Stays
+mod LedStays
+mod CopyLaws
+mod Walks
+mod WalkTests

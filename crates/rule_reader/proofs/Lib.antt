@@ -1,27 +1,27 @@
-pub mod ReadSteps
-pub mod TokenSteps
+mod ReadSteps
+mod TokenSteps
 pub mod AgainWords
-pub mod AgainHeader
-pub mod AgainClasses
+mod AgainHeader
+mod AgainClasses
 pub mod AgainPaths
 pub mod AgainRules
-pub mod AgainTexts
-pub mod CanonTrees
-pub mod ReadLoops
-pub mod ReadCodePaths
-pub mod ReadCodeText
-pub mod TakeWords
-pub mod TakeClasses
+mod AgainTexts
+mod CanonTrees
+mod ReadLoops
+mod ReadCodePaths
+mod ReadCodeText
+mod TakeWords
+mod TakeClasses
 pub mod TakePaths
-pub mod TakeRules
-pub mod TakeHeader
-pub mod TakeTexts
-pub mod Kept
-pub mod KeptWords
-pub mod KeptHeader
-pub mod KeptPaths
-pub mod KeptTexts
-pub mod ReadOutcomes
-pub mod SpanLoops
-pub mod SpanLaws
+mod TakeRules
+mod TakeHeader
+mod TakeTexts
+mod Kept
+mod KeptWords
+mod KeptHeader
+mod KeptPaths
+mod KeptTexts
+mod ReadOutcomes
+mod SpanLoops
+mod SpanLaws
 pub mod ReadStands

@@ -1,6 +1,6 @@
 pub mod CanonCells
-pub mod CanonClasses
+mod CanonClasses
 pub mod CanonItems
 pub mod CanonTexts
-pub mod Canon
-pub mod CanonRules
+mod Canon
+mod CanonRules

@@ -1,1 +1,1 @@
-pub mod OneWorld
+mod OneWorld

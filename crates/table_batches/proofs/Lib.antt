@@ -1,3 +1,3 @@
-pub mod Sides
-pub mod NameLookUps
-pub mod EightSeats
+mod Sides
+mod NameLookUps
+mod EightSeats

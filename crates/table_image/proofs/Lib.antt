@@ -1,9 +1,9 @@
-pub mod WordBits
-pub mod TakenCells
-pub mod WrittenCells
-pub mod OtherBytes
-pub mod RecordNumbers
-pub mod ChainedTables
-pub mod PackedStates
-pub mod PackedTables
-pub mod StartSlots
+mod WordBits
+mod TakenCells
+mod WrittenCells
+mod OtherBytes
+mod RecordNumbers
+mod ChainedTables
+mod PackedStates
+mod PackedTables
+mod StartSlots

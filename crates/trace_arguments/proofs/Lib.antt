@@ -1,17 +1,17 @@
-pub mod Named
-pub mod WordKinds
-pub mod LeafWalk
-pub mod Numbers
-pub mod Flags
-pub mod OptionRules
-pub mod CommandRules
-pub mod Asked
-pub mod GivenWords
-pub mod CommandEnds
-pub mod NextArgument
-pub mod CommandWalk
-pub mod LineWalk
-pub mod CommandLine
-pub mod CommandSteps
-pub mod ImportWords
-pub mod LineWords
+mod Named
+mod WordKinds
+mod LeafWalk
+mod Numbers
+mod Flags
+mod OptionRules
+mod CommandRules
+mod Asked
+mod GivenWords
+mod CommandEnds
+mod NextArgument
+mod CommandWalk
+mod LineWalk
+mod CommandLine
+mod CommandSteps
+mod ImportWords
+mod LineWords

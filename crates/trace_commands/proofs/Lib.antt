@@ -1,5 +1,5 @@
-pub mod Arguments
-pub mod Consumption
-pub mod ExplainEndings
-pub mod ImageAnswers
-pub mod ImageRead
+mod Arguments
+mod Consumption
+mod ExplainEndings
+mod ImageAnswers
+mod ImageRead

@@ -1,3 +1,3 @@
-pub mod PlaceLaws
-pub mod JoinedWords
-pub mod Endings
+mod PlaceLaws
+mod JoinedWords
+mod Endings

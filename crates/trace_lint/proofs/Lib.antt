@@ -1,12 +1,12 @@
-pub mod Tests
-pub mod FirstIdle
-pub mod RuleNumbers
-pub mod LetterParts
-pub mod RuleParts
-pub mod AllFound
-pub mod Pieces
-pub mod FloatLaws
-pub mod Written
-pub mod PartLaws
-pub mod OneLint
-pub mod Caveats
+mod Tests
+mod FirstIdle
+mod RuleNumbers
+mod LetterParts
+mod RuleParts
+mod AllFound
+mod Pieces
+mod FloatLaws
+mod Written
+mod PartLaws
+mod OneLint
+mod Caveats

@@ -1,7 +1,7 @@
-pub mod Refused
-pub mod Endings
-pub mod Searches
-pub mod Arguments
-pub mod DifferenceLaws
-pub mod DiffAnswers
-pub mod ListedLines
+mod Refused
+mod Endings
+mod Searches
+mod Arguments
+mod DifferenceLaws
+mod DiffAnswers
+mod ListedLines

@@ -1,11 +1,6 @@
-pub mod Grammars
-pub mod LineWords
-pub mod FollowedScripts
-pub mod Exact
-pub mod LineEnds
-pub mod PrintedLines
-pub mod LineReads
-pub mod ScriptRuns
-pub mod ScriptEndings
-pub mod LineTexts
-pub mod Publication
+mod PrintedLines
+mod LineReads
+mod ScriptRuns
+mod ScriptEndings
+mod LineTexts
+mod Publication

@@ -18,7 +18,7 @@ use Rattle.trace_script.specs.RunOutput.{Printed, printed, printed_lines, drop_p
 use Rattle.mediation.specs.Links.{LinkAnswered, made, not_allowed, failed, no_profile}
 use Rattle.mediation.specs.Deeds.{published_rules, removed}
 use Rattle.trace_script.specs.Script.{Command}
-use Rattle.trace_script.proofs.Exact.{lines_by}
+use Rattle.trace_script.specs.laws.Exact.{lines_by}
 
 -- the engine of `run` prints a line for each command
 pub run_lines_are : (limit : StateLimit) (history : History) (cs : List Command) → lines_by (run_engine limit) history cs

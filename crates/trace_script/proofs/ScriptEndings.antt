@@ -14,8 +14,8 @@ use Rattle.mediation.specs.History.{History}
 use Rattle.trace_script.specs.RunOutput.{ScriptEnds, script_output, ended_output, printed_lines, text_of_lines}
 use Rattle.trace_script.specs.Script.{Script, script_of}
 use Rattle.trace_report.specs.Streams.{AppendsFront, IsTold, IsWritten, Streams, streams}
-use Rattle.trace_script.proofs.Exact.{IsFollowedBy, IsShortBy, lines_by}
-use Rattle.trace_script.proofs.FollowedScripts.{text_of_lines-append}
+use Rattle.trace_script.specs.laws.Exact.{IsFollowedBy, IsShortBy, lines_by}
+use Rattle.trace_script.specs.laws.FollowedScripts.{text_of_lines-append}
 use Rattle.trace_script.proofs.PrintedLines.{first_run_lines_are, run_lines_are}
 use Rattle.trace_report.specs.laws.Endings.{appends_nothing}
 

@@ -16,9 +16,9 @@ use Rattle.trace_script.specs.Script.{Section, outside, line_feed, lines_of, sto
 use Rattle.trace_report.specs.Streams.{IsTextOf}
 use Rattle.trace_report.specs.laws.Endings.{appends_nothing, keeps}
 use Rattle.trace_report.specs.laws.Fronts.{Appends-kept}
-use Rattle.trace_script.proofs.FollowedScripts.{IsAhead, ahead_next, all_done, did_more, first_done, from_line}
-use Rattle.trace_script.proofs.FollowedScripts.{front_more, next_line, no_line}
-use Rattle.trace_script.proofs.FollowedScripts.{still_few, stopped_left, wrote_more}
+use Rattle.trace_script.specs.laws.FollowedScripts.{IsAhead, ahead_next, all_done, did_more, first_done, from_line}
+use Rattle.trace_script.specs.laws.FollowedScripts.{front_more, next_line, no_line}
+use Rattle.trace_script.specs.laws.FollowedScripts.{still_few, stopped_left, wrote_more}
 use Rattle.trace_script.proofs.LineReads.{Consumes-more, last_line, whole_line}
 
 pub consumes_nothing : (left : Option (List ℕ)) → Consumes left left []

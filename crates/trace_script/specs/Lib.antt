@@ -6,3 +6,4 @@ pub mod RunOutput
 pub mod FollowedScripts
 pub mod Rows
 pub mod inner
+pub mod laws

@@ -11,7 +11,7 @@ use Rattle.event_machine.specs.Machine.Event.{read_cell, open_change, set_cell, 
 use Rattle.event_machine.specs.Takes.{Takes}
 use Rattle.event_machine.specs.Runs.{Runs}
 use Rattle.event_machine.specs.Lawful.{IsLawful, IsTested, cell_reads}
-use Rattle.event_machine.proofs.Runs.{run_snoc}
+use Rattle.event_machine.specs.laws.Runs.{run_snoc}
 use Rattle.trace_steps.specs.inner.Actions.{AreSet}
 
 -- ---- one event after the other

@@ -4,7 +4,7 @@ use Rattle.event_machine.specs.Machine.{Machine}
 use Rattle.trace_script.specs.declared.stop.Stop.{Stop}
 use Rattle.trace_script.specs.Engine.{IsPut, IsText}
 use Rattle.trace_script.specs.FollowedScripts.{IsPrinted}
-use Rattle.trace_script.proofs.FollowedScripts.{nothing_printed, printed}
+use Rattle.trace_script.specs.laws.FollowedScripts.{nothing_printed, printed}
 use Rattle.trace_steps.specs.StepLines.{Lines}
 use Rattle.trace_steps.specs.inner.Actions.{HasLine, IsDone}
 

@@ -1,10 +1,10 @@
-pub mod NumberReads
-pub mod Stages
-pub mod Unread
-pub mod Cells
-pub mod Commands
-pub mod StepEndings
-pub mod NumberSteps
-pub mod CallEnds
-pub mod ChangeEnds
-pub mod PublicationEnds
+mod NumberReads
+mod Stages
+mod Unread
+mod Cells
+mod Commands
+mod StepEndings
+mod NumberSteps
+mod CallEnds
+mod ChangeEnds
+mod PublicationEnds

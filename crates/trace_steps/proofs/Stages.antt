@@ -16,7 +16,7 @@ use Rattle.event_machine.specs.WalkSteps.{MayAnswer}
 use Rattle.event_machine.specs.Takes.{Takes, after_policy}
 use Rattle.event_machine.specs.Runs.{Runs, told_by}
 use Rattle.event_machine.specs.Lawful.{HasTurn, cell_reads}
-use Rattle.event_machine.proofs.Runs.{run_snoc, runs_on}
+use Rattle.event_machine.specs.laws.Runs.{run_snoc, runs_on}
 use Rattle.trace_steps.specs.StepLines.{LeadsOn}
 use Rattle.trace_steps.specs.inner.Actions.{IsLedOn, HasCome, IsTurnTaken, IsAnswered, rank}
 

@@ -18,7 +18,7 @@ use Rattle.trace_steps.specs.StepLines.{Lines, DoesAll}
 use Rattle.trace_steps.specs.StepsOutput.{StepsEnd, IsWhole, IsFront, PrintsFirst}
 use Rattle.trace_steps.specs.inner.FollowedSteps.{step_engine}
 use Rattle.trace_script.specs.FollowedScripts.{IsFollowed, IsShort, DoesAll as DoesAllBy, PrintsFirst as PrintsFirstBy}
-use Rattle.trace_script.proofs.FollowedScripts.{all_first}
+use Rattle.trace_script.specs.laws.FollowedScripts.{all_first}
 
 -- all lines are written, which is a front part of them
 all_stand : (a b : Option (List ℕ)) (lines : Lines) → Appends a b (text_of_lines lines) → AppendsFront a b (text_of_lines lines)

@@ -6,7 +6,7 @@ use Rattle.trace_script.specs.declared.stop.Stop.{Stop}
 use Rattle.trace_script.specs.Engine.{IsPut}
 use Rattle.trace_script.specs.FollowedScripts.{IsPrinted, IsStep, Step}
 use Rattle.trace_script.specs.RunOutput.{Printed}
-use Rattle.trace_script.proofs.FollowedScripts.{printed}
+use Rattle.trace_script.specs.laws.FollowedScripts.{printed}
 use Rattle.trace_test.specs.TestOutput.{Expectation, failure_text, holds}
 use Rattle.trace_test.specs.inner.Tests.{IsAsked, Testing, answered_step, expected_step, with_one}
 

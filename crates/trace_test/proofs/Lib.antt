@@ -1,6 +1,6 @@
-pub mod WordReads
-pub mod Expectations
-pub mod Outcomes
-pub mod Woven
-pub mod Plain
-pub mod NoFloats
+mod WordReads
+mod Expectations
+mod Outcomes
+mod Woven
+mod Plain
+mod NoFloats

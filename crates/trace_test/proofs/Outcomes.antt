@@ -19,8 +19,8 @@ use Rattle.trace_script.specs.declared.stop.Stop.{Stop}
 use Rattle.trace_script.specs.declared.stop.Stop.TheVariants.{NoCommand, Input, TooLong, Memory, Output}
 use Rattle.trace_script.specs.Engine.{IsPut, stop_status, stop_text}
 use Rattle.trace_script.specs.RunOutput.{printed, printed_lines, text_of_lines}
-use Rattle.trace_script.proofs.Exact.{IsFollowedBy, IsShortBy, lines_by, lines_by-append, state_by}
-use Rattle.trace_script.proofs.FollowedScripts.{front_more, one_line, text_of_lines-append, wrote_more}
+use Rattle.trace_script.specs.laws.Exact.{IsFollowedBy, IsShortBy, lines_by, lines_by-append, state_by}
+use Rattle.trace_script.specs.laws.FollowedScripts.{front_more, one_line, text_of_lines-append, wrote_more}
 use Rattle.trace_test.specs.TestOutput.{Expectation, TestEnds, compared, count_text, expectations, failure_lines, failure_text}
 use Rattle.trace_test.specs.TestOutput.{fails, holds, test_output, tested_output, tested_status}
 use Rattle.trace_test.specs.TestScript.{TestCommand, ask, expect, asked_of, test_script}

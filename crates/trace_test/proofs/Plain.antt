@@ -16,8 +16,8 @@ use Rattle.trace_script.specs.RunOutput.{printed_lines}
 use Rattle.trace_script.specs.Script.{Command, LineKind, LineOf, Section, ScriptOf, ignored, opens_policy, command, no_command, is_blank}
 use Rattle.trace_script.specs.Script.{is_comment, is_end, kind_of_words, line_feed, line_kind, lines_of, outside, publish, run_grammar}
 use Rattle.trace_script.specs.Script.{script_by, script_of, within, words_of}
-use Rattle.trace_script.proofs.Grammars.{script_kind, script_within}
-use Rattle.trace_script.proofs.LineWords.{step_at_end, step_at_word}
+use Rattle.trace_script.specs.laws.Grammars.{script_kind, script_within}
+use Rattle.trace_script.specs.laws.LineWords.{step_at_end, step_at_word}
 use Rattle.trace_test.specs.Laws.{IsPlain, IsPlainLine}
 use Rattle.trace_test.specs.TestOutput.{compared, count_text, expectations, test_output, tested_output}
 use Rattle.trace_test.specs.TestScript.{TestCommand, ask, ask_kind, asked_of, behind_first, expect_kind, first_word, from_word, is_passed}

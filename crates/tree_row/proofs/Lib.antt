@@ -1,9 +1,9 @@
 pub mod Bytes
 pub mod PackedWords
 pub mod Slots
-pub mod SeenSlots
-pub mod Counts
-pub mod SeenEntries
-pub mod Knowledge
-pub mod Merges
-pub mod IndexSearch
+mod SeenSlots
+mod Counts
+mod SeenEntries
+mod Knowledge
+mod Merges
+mod IndexSearch

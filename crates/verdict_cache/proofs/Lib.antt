@@ -1,3 +1,3 @@
-pub mod Bounds
-pub mod EachEntry
-pub mod KeptEntries
+mod Bounds
+mod EachEntry
+mod KeptEntries

@@ -69,7 +69,7 @@ fn word_length(bytes: &[u8]) -> usize
 }
 
 /// The word at the front, and what is left after it; none if there is no word.
-#[tactic(auto, using(crate::proofs::ReadRuns::leading_cut))]
+#[tactic(auto, using(crate::specs::laws::ReadRuns::leading_cut))]
 pub(crate) fn word_of(bytes: &[u8]) -> Option<(&[u8], &[u8])>
     ensures none { result ≡ None → word bytes.now ≡ [] }
     ensures some { IfSome result (λ x. (x.0.now ≡ word bytes.now) × (x.1.now ≡ after_word bytes.now) × (0 < length x.0.now)) }

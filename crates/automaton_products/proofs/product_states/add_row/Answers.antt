@@ -4,7 +4,7 @@ use Rattle.automaton_rows.specs.declared.range.TargetRange.{TargetRange}
 use Rattle.automaton_rows.specs.Rows.{IsRowAppended}
 use Rattle.automaton_rows.specs.laws.Fronts.{one_range_more, last_range, IsSoFar}
 use Rattle.automaton_products.specs.Products.{pairs_of, next_pair, IsReached}
-use Rattle.automaton_products.proofs.PairLaws.{reached_within, reached_next, kept_through, kept_at}
+use Rattle.automaton_products.specs.laws.PairLaws.{reached_within, reached_next, kept_through, kept_at}
 use Rattle.automaton_products.proofs.WalkSteps.{step_pair}
 use Rattle.automaton_products.proofs.product_states.add_row.Goals as goal
 

@@ -5,7 +5,7 @@ use Rattle.names.specs.declared.record.Record.{Record}
 use Rattle.automaton_rows.specs.declared.range.TargetRange.{TargetRange}
 use Rattle.automaton_products.specs.Products.{pairs_of}
 use Rattle.automaton_products.specs.ProductStates.{AreStates}
-use Rattle.automaton_products.proofs.PairLaws.{pair_reached, reached_within}
+use Rattle.automaton_products.specs.laws.PairLaws.{pair_reached, reached_within}
 use Rattle.automaton_products.proofs.JoinedStates.{one_state_more}
 use Rattle.automaton_products.proofs.product_states.add_state.Goals as goal
 

@@ -1,7 +1,7 @@
 -- There is a state for each pair.
 use Rattle.std.proofs.Common.{sym, subst}
 use Rattle.automaton_products.specs.Products.{pairs_of, start_pair, IsProduct}
-use Rattle.automaton_products.proofs.PairLaws.{kept_at}
+use Rattle.automaton_products.specs.laws.PairLaws.{kept_at}
 use Rattle.automaton_products.proofs.WholeProducts.{are_rows, is_whole, is_product}
 use Rattle.automaton_products.proofs.product_states.product.Goals as goal
 

@@ -1,4 +1,4 @@
-use Rattle.event_machine.proofs.Runs.{rule_kept}
+use Rattle.event_machine.specs.laws.Runs.{rule_kept}
 use Rattle.event_machine.specs.laws.Ruled.{row_encodes}
 use Rattle.event_machine.proofs.laws.runs_keep_rule.Goals as goal
 

@@ -1,5 +1,5 @@
 use Rattle.event_machine.specs.Machine.{first}
-use Rattle.event_machine.proofs.Runs.{runs_on}
+use Rattle.event_machine.specs.laws.Runs.{runs_on}
 use Rattle.event_machine.proofs.laws.steps_go_on_runs.Goals as goal
 
 pub returns : goal.returns

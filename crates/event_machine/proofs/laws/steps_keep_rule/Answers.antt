@@ -1,5 +1,5 @@
 use Rattle.event_machine.specs.laws.Ruled.{takes_keep}
-use Rattle.event_machine.proofs.Runs.{runs_keep}
+use Rattle.event_machine.specs.laws.Runs.{runs_keep}
 use Rattle.event_machine.proofs.laws.steps_keep_rule.Goals as goal
 
 pub returns-clause-step : goal.returns-clause-step

@@ -1,8 +1,8 @@
 use denote.Exit.{no}
 use denote.Param.{param}
 use denote.Param.Send.{shr_send}
-use Rattle.path_guard.proofs.Closures.{of_three}
-use Rattle.guarded_row.proofs.ThreadSafety.{guarded_row_sync}
+use Rattle.path_guard.specs.laws.Closures.{of_three}
+use Rattle.guarded_row.specs.laws.ThreadSafety.{guarded_row_sync}
 use Rattle.guard_tests.proofs.locked.Signals.TheSendSync as signals
 use Rattle.guard_tests.proofs.locked.open_under_lock.Goals as goal
 

@@ -2,7 +2,7 @@ use Rattle.std.proofs.Common.{◌≡◌, refl, ap, ◌∙◌, sym, inl, inr, tak
 use Rattle.std.specs.Prelude.{Ok, Err}
 use Rattle.directory_tree.specs.Plain.{Plain, tree_of}
 use Rattle.mediation.specs.Opens.{reached}
-use Rattle.plain_tree.proofs.Acts.{world_of}
+use Rattle.plain_tree.specs.laws.Acts.{world_of}
 use Rattle.justification.proofs.end.end_in.Goals as goal
 
 pub unreachable-requires : goal.unreachable-requires

@@ -1,7 +1,7 @@
 use Rattle.std.proofs.Common.{refl, ap, ◌∙◌, sym, inl, inr}
 use Rattle.directory_tree.specs.Plain.{Plain, tree_of}
 use Rattle.mediation.specs.Opens.{reached}
-use Rattle.plain_tree.proofs.Acts.{world_of}
+use Rattle.plain_tree.specs.laws.Acts.{world_of}
 use Rattle.justification.proofs.reach.reach_in.Goals as goal
 
 pub unreachable-requires : goal.unreachable-requires

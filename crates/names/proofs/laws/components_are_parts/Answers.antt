@@ -1,4 +1,4 @@
-use Rattle.names.proofs.PathLaws.{components_parts}
+use Rattle.names.specs.laws.PathLaws.{components_parts}
 use Rattle.names.proofs.laws.components_are_parts.Goals as goal
 
 pub returns : goal.returns

@@ -1,4 +1,4 @@
-use Rattle.names.proofs.PathLaws.{components_joined}
+use Rattle.names.specs.laws.PathLaws.{components_joined}
 use Rattle.names.proofs.laws.components_of_joined.Goals as goal
 
 pub returns : goal.returns

@@ -1,4 +1,4 @@
-use Rattle.names.proofs.PathLaws.{path_components}
+use Rattle.names.specs.laws.PathLaws.{path_components}
 use Rattle.names.proofs.laws.components_of_paths.Goals as goal
 
 pub returns : goal.returns

@@ -1,6 +1,6 @@
 use Rattle.std.proofs.Common.{sym, ◌∙◌, length}
 use Rattle.std.proofs.lemmas.Bool.{le-ltb}
-use Rattle.names.proofs.PathLaws.{short_text}
+use Rattle.names.specs.laws.PathLaws.{short_text}
 use Rattle.names.proofs.paths.has_long_component.Goals as goal
 
 pub returns-else-text-gt-LONGEST_COMPONENT : goal.returns-else-text-gt-LONGEST_COMPONENT

@@ -1,6 +1,6 @@
 -- One step over a text takes its first component off.
 use Rattle.std.proofs.Common.{rules}
-use Rattle.names.proofs.PathLemmas.{step_at_part, step_at_end, left_shorter, left_slash}
+use Rattle.names.specs.laws.PathLemmas.{step_at_part, step_at_end, left_shorter, left_slash}
 use Rattle.names.proofs.paths.split_component.Goals as goal
 
 pub returns-then-is_empty-2-clause-first : goal.returns-then-is_empty-2-clause-first

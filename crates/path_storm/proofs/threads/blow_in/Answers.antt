@@ -2,8 +2,8 @@ use denote.Exit.{no}
 use denote.Param.{param}
 use denote.Param.Send.{shr_send}
 use Rattle.std.proofs.Crossing as boxes
-use Rattle.path_guard.proofs.Closures.{of_four}
-use Rattle.path_guard.proofs.ThreadSafety.{guard_sync}
+use Rattle.path_guard.specs.laws.Closures.{of_four}
+use Rattle.path_guard.specs.laws.ThreadSafety.{guard_sync}
 use Rattle.path_storm.proofs.Closures.{of_five}
 use Rattle.path_storm.proofs.ThreadSafety.{profiles_sync, renames_send, replacements_send}
 use Rattle.path_storm.proofs.threads.blow_in.Goals as goal

@@ -2,7 +2,7 @@ use denote.Exit.{no}
 use denote.Param.{param}
 use denote.Param.Send.{sendable, shr_send}
 use Rattle.std.proofs.Crossing as boxes
-use Rattle.path_guard.proofs.ThreadSafety.{guard_sync}
+use Rattle.path_guard.specs.laws.ThreadSafety.{guard_sync}
 use Rattle.path_storm.proofs.Closures.{of_six}
 use Rattle.path_storm.proofs.ThreadSafety.{opens_send, session_log_send, worker_send}
 use Rattle.path_storm.proofs.threads.start.Goals as goal

@@ -1,7 +1,7 @@
 use Rattle.std.proofs.Common.{◌≡◌, ◌≤◌, ◌+◌, ◌∙◌, ℕ, refl, subst, sym, arith, below_more}
 use Rattle.row_index.specs.Places.{around}
 use Rattle.row_index.specs.Edits.{index_at}
-use Rattle.row_index.proofs.Rounds.{around_start, around_more}
+use Rattle.row_index.specs.laws.Rounds.{around_start, around_more}
 use Rattle.row_plan.proofs.index.vacant_place.Goals as goal
 
 pub loop-step-init : goal.loop-step-init

@@ -2,7 +2,7 @@ use Rattle.std.proofs.Common.{◌≡◌, Err, refl, rules, ◌∙◌}
 use Rattle.trace_script.specs.Script.{publish}
 use Rattle.trace_script.specs.FollowedScripts.{IsStep}
 use Rattle.trace_script.specs.RunOutput.{printed as answered}
-use Rattle.trace_script.proofs.FollowedScripts.{printed, not_printed}
+use Rattle.trace_script.specs.laws.FollowedScripts.{printed, not_printed}
 use Rattle.trace_script.specs.inner.FollowedScripts.{one_line_step}
 use Rattle.trace_script.proofs.commands.answer_policy.Goals as goal
 

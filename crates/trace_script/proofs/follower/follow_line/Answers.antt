@@ -4,7 +4,7 @@ use Rattle.trace_script.specs.declared.section.Section.{Section}
 use Rattle.trace_script.specs.Engine.{section_value}
 use Rattle.trace_script.specs.Script.{is_end}
 use Rattle.trace_script.specs.FollowedScripts.{IsLineFollowed}
-use Rattle.trace_script.proofs.LineEnds.{within_ends, within_goes_on, policy_stopped}
+use Rattle.trace_script.specs.laws.LineEnds.{within_ends, within_goes_on, policy_stopped}
 use Rattle.trace_script.proofs.follower.follow_line.Goals as goal
 
 pub returns-in_err-do_policy-in-Within-clause-line : goal.returns-in_err-do_policy-in-Within-clause-line

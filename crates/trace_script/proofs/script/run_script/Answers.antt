@@ -1,5 +1,5 @@
 use Rattle.std.proofs.Common.{Ok, Err}
-use Rattle.trace_script.proofs.Exact.{followed_by}
+use Rattle.trace_script.specs.laws.Exact.{followed_by}
 use Rattle.trace_script.proofs.ScriptEndings.{script_ends, script_done}
 use Rattle.trace_script.specs.inner.FollowedScripts.{run_engine}
 use Rattle.trace_script.proofs.script.run_script.Goals as goal

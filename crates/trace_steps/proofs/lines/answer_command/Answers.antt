@@ -1,5 +1,5 @@
 use Rattle.std.proofs.Common.{◌≡◌, Err, rules}
-use Rattle.trace_script.proofs.FollowedScripts.{not_printed}
+use Rattle.trace_script.specs.laws.FollowedScripts.{not_printed}
 use Rattle.trace_steps.specs.StepLines.{Does}
 use Rattle.trace_steps.specs.inner.StepValues.{step_value}
 use Rattle.trace_steps.proofs.Commands.{done_put, done_silently}

@@ -1,7 +1,7 @@
 use Rattle.std.proofs.Common.{◌≡◌, ℕ, List, Ok, Err, ap, ◌∙◌, subst, rules, arith}
 use Rattle.trace_report.specs.Streams.{IsTextOf}
 use Rattle.trace_script.specs.FollowedScripts.{IsFollowed, exactly}
-use Rattle.trace_script.proofs.Exact.{followed_by}
+use Rattle.trace_script.specs.laws.Exact.{followed_by}
 use Rattle.trace_test.specs.inner.Tests.{Testing, first_testing, test_engine, testing}
 use Rattle.trace_test.proofs.Outcomes.{cut_test, stopped_test, uncounted_test, whole_test}
 use Rattle.trace_test.proofs.script.test.Goals as goal

@@ -2,7 +2,7 @@ use Rattle.std.proofs.Common.{◌≡◌, ℕ, ◌+◌, ◌<◌, ◌∙◌, Some,
 use Rattle.std.specs.Prelude.{slice_index}
 use Rattle.row_index.specs.Places.{around, index_length}
 use Rattle.row_index.specs.Hashes.{home}
-use Rattle.row_index.proofs.Rounds.{around_start, around_more}
+use Rattle.row_index.specs.laws.Rounds.{around_start, around_more}
 use Rattle.tree_row.specs.Worlds.{Reads}
 use Rattle.tree_row.specs.Search.{TellsNamed}
 use Rattle.tree_row.proofs.IndexSearch.{before_more, ends_free, ends_all, found_named}

@@ -2,7 +2,7 @@
 use Rattle.std.proofs.Common.{◌≡◌, ◌∙◌, ◌++◌, ◌∷◌, [], false, ap, sym, arith, if◌then◌else◌}
 use Rattle.std.specs.List.{list_any}
 use Rattle.automaton_products.specs.contracts.pairs.PairPartialEq.TheImpl as pair_impl
-use Rattle.automaton_products.proofs.PairNumbers.{all_distinct, not_there, numbered_found, numbered_new}
+use Rattle.automaton_products.specs.laws.PairNumbers.{all_distinct, not_there, numbered_found, numbered_new}
 use Rattle.automaton_products.proofs.pairs.Pairs.number.Goals as goal
 
 pub returns-in-Some-clause-ok : goal.returns-in-Some-clause-ok

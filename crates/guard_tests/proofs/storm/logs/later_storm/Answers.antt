@@ -6,7 +6,7 @@ use denote.Param.{param}
 use denote.Param.Send.{IsSend, IsSync, arg_sync, param_sync, sendable}
 use Rattle.std.proofs.Crossing as boxes
 use Rattle.guarded_row.specs.declared.row.Row as row
-use Rattle.path_guard.proofs.ThreadSafety.{guard_sync}
+use Rattle.path_guard.specs.laws.ThreadSafety.{guard_sync}
 use Rattle.guard_tests.specs.contracts.storm.logs.Later as later
 use Rattle.guard_tests.proofs.storm.logs.later_storm.Goals as goal
 

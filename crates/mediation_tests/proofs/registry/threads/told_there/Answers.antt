@@ -1,5 +1,5 @@
 use denote.Param.Send.{sendable}
-use Rattle.profile_registry.proofs.ThreadSafety.{publisher_send}
+use Rattle.profile_registry.specs.laws.ThreadSafety.{publisher_send}
 use Rattle.mediation_tests.proofs.registry.threads.told_there.Goals as goal
 
 pub join-requires-send-F : goal.join-requires-send-F

@@ -1,4 +1,4 @@
-use Rattle.names.proofs.PathLaws.{path_components_few}
+use Rattle.names.specs.laws.PathLaws.{path_components_few}
 use Rattle.names.proofs.paths.Path.components.Goals as goal
 
 pub returns-clause-few : goal.returns-clause-few

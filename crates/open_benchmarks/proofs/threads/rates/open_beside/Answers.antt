@@ -1,7 +1,7 @@
 use denote.Exit.{no}
 use denote.Param.Send.{shr_send, shr_slice_send}
 use Rattle.std.proofs.Crossing.{Vec-send}
-use Rattle.path_session.proofs.ThreadSafety.{session_send}
+use Rattle.path_session.specs.laws.ThreadSafety.{session_send}
 use Rattle.open_benchmarks.proofs.ThreadSafety.{byte_sync, number_sync, flag_sync, of_five}
 use Rattle.open_benchmarks.proofs.threads.rates.open_beside.Goals as goal
 

@@ -4,7 +4,7 @@ use Rattle.directory_tree.specs.Plain.{Plain, tree_of}
 use Rattle.directory_tree.specs.Spots.{shape_of, kind_at}
 use Rattle.change_checks.specs.Act.{MayMove}
 use Rattle.plain_tree.specs.PlainEntry.{means_in}
-use Rattle.plain_tree.proofs.Acts.{directory_stands}
+use Rattle.plain_tree.specs.laws.Acts.{directory_stands}
 use Rattle.plain_tree.proofs.plain.PlainTree.apply.Goals as goal
 
 pub shift-requires-clause-parent : goal.shift-requires-clause-parent

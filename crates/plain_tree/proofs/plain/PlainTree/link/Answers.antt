@@ -1,4 +1,4 @@
-use Rattle.plain_tree.proofs.Acts.{directory_stands}
+use Rattle.plain_tree.specs.laws.Acts.{directory_stands}
 use Rattle.plain_tree.proofs.plain.PlainTree.link.Goals as goal
 
 pub add-requires-clause-parent : goal.add-requires-clause-parent

@@ -1,7 +1,7 @@
 use Rattle.directory_tree.specs.Plain.{tree_of}
 use Rattle.directory_tree.proofs.Histories.{plain_well}
 use Rattle.plain_tree.proofs.Entries.{next_nowhere}
-use Rattle.plain_tree.proofs.Acts.{directory_stands}
+use Rattle.plain_tree.specs.laws.Acts.{directory_stands}
 use Rattle.plain_tree.proofs.plain.PlainTree.make.Goals as goal
 
 pub add-requires-clause-parent : goal.add-requires-clause-parent

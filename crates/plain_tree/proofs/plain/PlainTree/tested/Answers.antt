@@ -3,7 +3,7 @@ use Rattle.directory_tree.specs.Apply.{most_changes}
 use Rattle.directory_tree.specs.Plain.{Plain, tree_of}
 use Rattle.change_checks.specs.Act.{IsTested}
 use Rattle.plain_tree.specs.PlainEntry.{means_in}
-use Rattle.plain_tree.proofs.Acts.{world_of, never_torn, told, counted_ok, counted_err}
+use Rattle.plain_tree.specs.laws.Acts.{world_of, never_torn, told, counted_ok, counted_err}
 use Rattle.plain_tree.proofs.plain.PlainTree.tested.Goals as goal
 
 pub unreachable-requires : goal.unreachable-requires

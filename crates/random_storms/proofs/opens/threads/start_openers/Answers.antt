@@ -1,7 +1,7 @@
 use denote.Exit.{no}
 use denote.Param.{param}
 use denote.Param.Send.{shr_send}
-use Rattle.path_guard.proofs.Closures.{of_three}
+use Rattle.path_guard.specs.laws.Closures.{of_three}
 use Rattle.random_storms.proofs.ThreadSafety.{opener_send, scene_sync}
 use Rattle.random_storms.proofs.opens.threads.start_openers.Goals as goal
 

@@ -1,7 +1,7 @@
 use denote.Exit.{no}
 use denote.Param.{param}
 use denote.Param.Send.{shr_send}
-use Rattle.path_guard.proofs.Closures.{of_four}
+use Rattle.path_guard.specs.laws.Closures.{of_four}
 use Rattle.random_storms.proofs.ThreadSafety.{random_send, number_send, scene_sync}
 use Rattle.random_storms.proofs.opens.threads.start_publishers.Goals as goal
 

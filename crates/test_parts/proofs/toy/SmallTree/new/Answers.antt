@@ -6,4 +6,7 @@ use Rattle.test_parts.proofs.SmallTreeLaws.{small_sound}
 use Rattle.test_parts.proofs.toy.SmallTree.new.Goals as goal
 
 pub returns : goal.returns
-returns c = let w : World = record { tree = small_tree; named = λ _. Root; sound = small_sound c.changes_keep_well_formed.ensures.all } in (w, refl)
+returns c =
+    let sound = small_sound c.changes_keep_well_formed.ensures.all in
+    let w : World = record { tree = small_tree; named = λ _. Root; sound = sound } in
+    (w, refl)

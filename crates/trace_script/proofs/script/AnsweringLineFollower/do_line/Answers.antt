@@ -1,6 +1,6 @@
 use Rattle.std.proofs.Common.{◌≡◌, [], Err, refl, ap, rules}
 use Rattle.trace_report.specs.laws.Endings.{appends_nothing}
-use Rattle.trace_script.proofs.LineEnds.{by_kind, command_stopped, not_followed}
+use Rattle.trace_script.specs.laws.LineEnds.{by_kind, command_stopped, not_followed}
 use Rattle.trace_script.specs.FollowedScripts.{exactly}
 use Rattle.trace_script.specs.inner.FollowedScripts.{run_engine}
 use Rattle.trace_script.specs.LineValues.{command_value}

@@ -1,6 +1,6 @@
 -- One step over the line takes its first word off.
 use Rattle.std.proofs.Common.{length, sym, ap, ◌∙◌, rules}
-use Rattle.trace_script.proofs.LineWords.{step_at_word, step_at_end}
+use Rattle.trace_script.specs.laws.LineWords.{step_at_word, step_at_end}
 use Rattle.trace_script.proofs.words.WordsIterator.next.Goals as goal
 
 first : goal.returns-clause-steps

@@ -1,6 +1,6 @@
 use Rattle.std.proofs.Common.{◌≡◌, [], Err, refl, ap, rules}
 use Rattle.trace_report.specs.laws.Endings.{appends_nothing}
-use Rattle.trace_script.proofs.LineEnds.{by_kind, command_stopped, not_followed}
+use Rattle.trace_script.specs.laws.LineEnds.{by_kind, command_stopped, not_followed}
 use Rattle.trace_script.specs.Script.{outside, within, ignored, opens_policy, command}
 use Rattle.trace_steps.specs.inner.FollowedSteps.{step_engine}
 use Rattle.trace_steps.specs.inner.StepValues.{step_value}

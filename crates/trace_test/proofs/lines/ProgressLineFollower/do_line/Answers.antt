@@ -1,6 +1,6 @@
 use Rattle.std.proofs.Common.{◌≡◌, [], Err, refl, sym, ap, ◌∙◌, rules}
 use Rattle.trace_report.specs.laws.Endings.{appends_nothing}
-use Rattle.trace_script.proofs.LineEnds.{by_kind, command_stopped, not_followed}
+use Rattle.trace_script.specs.laws.LineEnds.{by_kind, command_stopped, not_followed}
 use Rattle.trace_script.specs.FollowedScripts.{exactly}
 use Rattle.trace_script.specs.Script.{command, ignored, no_command, opens_policy, outside, within}
 use Rattle.trace_test.specs.TestScript.{test_kind}

@@ -8,7 +8,7 @@ use Rattle.trace_script.specs.Engine.{IsTooLong}
 use Rattle.trace_script.specs.FollowedScripts.{CommandsRead, DoesAll, ExactEngine, IsFollowed, IsShort, IsWhole, Lines, exactly, script}
 use Rattle.trace_script.specs.RunOutput.{text_of_lines}
 use Rattle.trace_report.specs.Streams.{AppendsFront}
-use Rattle.trace_script.proofs.FollowedScripts.{front_of_more}
+use Rattle.trace_script.specs.laws.FollowedScripts.{front_of_more}
 
 module _ {C S : Type 0} (engine : ExactEngine C S) where
   -- the lines that commands print, one after the other, and the state that they lead to

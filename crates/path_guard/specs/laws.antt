@@ -1,2 +1,2 @@
-pub mod Closures
 pub mod ThreadSafety
+pub mod Closures

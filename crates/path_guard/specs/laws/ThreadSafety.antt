@@ -2,7 +2,7 @@
 use denote.RattleType.{RattleType}
 use denote.Param.Send.{IsSend, IsSync, sendable}
 use Rattle.std.proofs.Crossing as boxes
-use Rattle.profile_registry.proofs.ThreadSafety.{publisher_send}
+use Rattle.profile_registry.specs.laws.ThreadSafety.{publisher_send}
 use Rattle.guarded_row.proofs.guarded.GuardedRow.TheSendSync as guarded
 use Rattle.guarded_row.specs.declared.row.Row as row
 use Rattle.path_guard.specs.contracts.guard.Guard as guard

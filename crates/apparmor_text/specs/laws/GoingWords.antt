@@ -16,7 +16,7 @@ use Rattle.apparmor_text.specs.WordParts.{blank_part, gap_part, word_part, path_
 use Rattle.apparmor_text.specs.WordParts.{within_quotes, begins_no_name}
 use Rattle.apparmor_words.specs.laws.Shorter.{blank_before, word_shorter, opened_shorter}
 use Rattle.apparmor_words.specs.laws.Steps.{bind_ok, chosen, ok_is, not_ok}
-use Rattle.apparmor_text.proofs.Progress.{Goes, going_on, going_taken, going_shortens}
+use Rattle.apparmor_text.specs.laws.Progress.{Goes, going_on, going_taken, going_shortens}
 
 -- a front part is what comes before the rest
 pub front_taken : (front rest : List ℕ) → take (length (front ++ rest) - length rest) (front ++ rest) ≡ front

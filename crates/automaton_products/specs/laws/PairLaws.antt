@@ -12,7 +12,7 @@ use Rattle.automaton_products.specs.declared.pairs.Pair.{Pair}
 use Rattle.automaton_products.specs.Numbers.{AreDistinct, IsNumbered, IsNumberFault}
 use Rattle.automaton_products.specs.Products.{pair, dead_pair, start_pair, next_pair, IsMet, IsReached, ArePairs, AreFewPairs, Keeps}
 use Rattle.automaton_products.specs.Products.{IsProductFault}
-use Rattle.automaton_products.proofs.PairNumbers.{get_stays, get_either, distinct_more}
+use Rattle.automaton_products.specs.laws.PairNumbers.{get_stays, get_either, distinct_more}
 
 -- ---- states after bytes
 

@@ -17,7 +17,7 @@ use Rattle.trace_report.specs.Output.{line}
 use Rattle.trace_report.specs.Streams.{AppendsFront}
 use Rattle.trace_report.specs.laws.Endings.{appends_nothing, keeps}
 use Rattle.trace_report.specs.laws.Fronts.{Appends-more}
-use Rattle.trace_script.proofs.Grammars.{script_kind, script_within, few_commands}
+use Rattle.trace_script.specs.laws.Grammars.{script_kind, script_within, few_commands}
 
 -- ---- lines that are written
 

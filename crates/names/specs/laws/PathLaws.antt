@@ -10,7 +10,7 @@ use Rattle.std.proofs.lemmas.List.Splits.{length-slice_split}
 use Rattle.names.specs.declared.errors.Errno.TheVariants.{ENOENT, EINVAL, ENAMETOOLONG}
 use Rattle.names.specs.Paths.{is_slash, is_empty, begins_with_slash, ends_with_slash, closing_component, components, has_long_component}
 use Rattle.names.specs.Paths.{path_fault, IsPart, IsPathComponent}
-use Rattle.names.proofs.PathLemmas.{components_few}
+use Rattle.names.specs.laws.PathLemmas.{components_few}
 
 abbrev some : List ℕ → Bool
 some part = not (is_empty part)

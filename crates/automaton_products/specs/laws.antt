@@ -1,0 +1,2 @@
+pub mod PairNumbers
+pub mod PairLaws

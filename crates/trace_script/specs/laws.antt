@@ -1,0 +1,5 @@
+pub mod Grammars
+pub mod LineWords
+pub mod LineEnds
+pub mod FollowedScripts
+pub mod Exact
