@@ -66,6 +66,7 @@ run: need-rt
 test: need-rt
 	@tools/version-check
 	@python3 tools/definitions --cited path_session Session::try_open --most 900 >/dev/null
+	@tools/cited-lemmas --most 30 >/dev/null
 	rt ci
 
 tour: aa-trace

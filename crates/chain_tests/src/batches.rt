@@ -2,8 +2,8 @@
 //! callers in C.
 ghost use Rattle.image_judge.specs.Answers.{IsNoneOrLoaded};
 
-use crate::profiles::{chained_of, verified};
-use crate::worked::{STALE, is_accepted};
+use crate::profiles::chained_of;
+use crate::worked::STALE;
 use image_judge::{judge, judge_all};
 use std::alloc::Global;
 use std::process::Abort;
@@ -11,7 +11,7 @@ use std::test::Fail;
 use table_batches::{are_offsets, run_names, run_names_by_image};
 use table_image::to_bytes;
 use table_verifier::{LookUps, State, Steps, VerifiedImage, VerifiedTable, run, verify_image};
-use test_parts::PROFILE_TEXTS;
+use test_parts::{PROFILE_TEXTS, is_accepted, verified};
 
 // Names in one text, each from an offset to the next.
 #[derive(Drop)]

@@ -1,5 +1,4 @@
 //! Long chains of defaults: how many look-ups a byte takes, up to one more than the greatest bound.
-use crate::profiles::verified;
 use names::Record;
 use std::alloc::Global;
 use std::process::Abort;
@@ -8,7 +7,7 @@ use table_image::{ImageFault, RawTable};
 use table_verifier::{
     LookUps, State, Steps, VerifiedImage, VerifiedTable, run, run_image, verify, verify_image,
 };
-use test_parts::{image_of_table, put};
+use test_parts::{image_of_table, put, verified};
 
 // A chain from state 1 to the last one: each has the next one for its default, and one depth more than that. The last has no depth,
 // and leads to state 0, which is dead. All share one row, in which each owns the cell of the byte with its number, if there is one,

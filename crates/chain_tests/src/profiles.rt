@@ -8,7 +8,6 @@ use rule_text::read;
 use std::alloc::Global;
 use std::test::Fail;
 use table_image::{RawTable, pack_chained};
-use table_verifier::{VerifiedTable, verify};
 
 /// A profile with this number of rules, 127 at most. After a slash and a byte from 128 on, each byte from 128 up to that one leads
 /// to a state of its own: so the row of each of these states has one target more than that of the state before.
@@ -39,12 +38,4 @@ pub(crate) fn chained_of(alloc: Global, text: &[u8], most_depth: u16) -> Result<
 {
     let dfa = automaton_of(alloc, text)?;
     Ok(pack_chained(alloc, &dfa, most_depth)?)
-}
-
-/// The table, verified.
-pub(crate) fn verified(table: RawTable) -> Result<VerifiedTable, Fail> {
-    match verify(table) {
-        Ok(verified) => Ok(verified),
-        Err((fault, _)) => Err(Fail::from(fault)),
-    }
 }

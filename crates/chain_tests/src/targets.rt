@@ -1,12 +1,12 @@
 //! The targets of every state of a table, over its chains, next to the automaton's.
-use crate::profiles::{automaton_of, staircase, verified};
+use crate::profiles::{automaton_of, staircase};
 use glob_automaton::Dfa;
 use std::alloc::Global;
 use std::process::Abort;
 use std::test::Fail;
 use table_image::{pack_chained, to_bytes};
 use table_verifier::{LookUps, Steps, VerifiedImage, VerifiedTable, verify_image};
-use test_parts::PROFILE_TEXTS;
+use test_parts::{PROFILE_TEXTS, verified};
 
 // A table with what it was packed from, and its image.
 #[derive(Clone, Copy)]

@@ -1,6 +1,4 @@
 //! The smallest table with a chain of defaults, in version 2: state 1 has depth 1, and state 2 for its default.
-ghost use Rattle.std.specs.Prelude.{IsTrue};
-ghost use Rattle.image_judge.specs.Answers.{IsNoneOrLoaded};
 
 use image_judge::{Answer, Fault};
 use names::{Permission, Perms, Record, Verdict};
@@ -10,9 +8,9 @@ use std::test::Fail;
 use table_image::{ImageFault, RawTable, from_bytes, to_bytes};
 use table_verifier::{
     LoadedProfile, LookUps, State, Steps, VerifiedImage, VerifiedTable, judge, judge_image, run,
-    run_image, verify, verify_image,
+    run_image, verify_image,
 };
-use test_parts::{smallest_chained_image, three_states_image};
+use test_parts::{fault_of, is_accepted, smallest_chained_image, three_states_image};
 
 #[test]
 fn read(rt: HostRuntime) -> Result<(), Fail> {
@@ -115,13 +113,6 @@ pub(crate) const STALE: Answer = Answer {
     missing: 9,
 };
 
-/// Whether an image is accepted: then names may be judged by it.
-pub(crate) fn is_accepted(image: &[u8]) -> bool
-    ensures { IsTrue result → IsNoneOrLoaded image.now }
-{
-    verify_image(image).is_ok()
-}
-
 // What callers in C see: the steps are bytes, and the look-ups are not counted.
 #[test]
 fn names_judged_for_c(rt: HostRuntime) -> Result<(), Fail> {
@@ -169,13 +160,6 @@ const DEPTHS: [Depths; 13] = [
     ([0, 2, 0], [0, 2, 2], Some(ImageFault::Depth { state: 1 })),
     ([0, 2, 3], [2, 1, 0], Some(ImageFault::Default { state: 2 })),
 ];
-
-fn fault_of(table: RawTable) -> Option<ImageFault> {
-    match verify(table) {
-        Ok(_) => None,
-        Err((fault, _)) => Some(fault),
-    }
-}
 
 fn expect_fault(rt: &impl Abort, alloc: Global, row: &Depths) -> Result<(), Fail> {
     let (default, depth, want) = *row;

@@ -1,14 +1,13 @@
 //! Images through each function of `image_judge`. They are written by hand: `a` leads from the start to a state whose record
 //! allows reading by rule 1 and denies writing by rule 2; all else leads to the dead state. By the image of version 2 that record
 //! allows appending by rule 3, too.
-ghost use Rattle.std.specs.Prelude.{IsTrue};
 ghost use Rattle.image_judge.specs.Answers.{IsNoneOrLoaded};
 
 use image_judge::{Answer, Counts, Fault, count, judge, judge_all, numbers_are_sets, verify};
 use std::alloc::Global;
 use std::process::Abort;
 use std::test::Fail;
-use table_verifier::verify_image;
+use test_parts::is_accepted;
 
 fn image(alloc: Global) -> Result<Vec<u8>, Fail> {
     let mut image = Vec::new(alloc);
@@ -90,13 +89,6 @@ fn answer(verdict: u16, rule: u16, missing: u16, steps: u64) -> Answer {
         rule,
         missing,
     }
-}
-
-// Whether an image is accepted: then names may be judged by it.
-fn is_accepted(image: &[u8]) -> bool
-    ensures { IsTrue result → IsNoneOrLoaded image.now }
-{
-    verify_image(image).is_ok()
 }
 
 // The answer for a name.

@@ -8,6 +8,7 @@ use std::alloc::Global;
 use std::process::Abort;
 use std::sync::Arc;
 use std::test::Fail;
+use storm_parts::{failed, judged};
 use test_parts::path;
 
 // An answer to an open, and whether it is justified.
@@ -69,15 +70,6 @@ fn of_file<'a>(answer: Answer, holds: bool) -> Row<'a> {
     }
 }
 
-fn judged(verdict: Verdict, node: u64, tree_version: u64, policy_version: u64) -> Answer {
-    Answer::Judged {
-        verdict,
-        node,
-        tree_version,
-        policy_version,
-    }
-}
-
 #[test]
 fn verdicts(rt: HostRuntime) -> Result<(), Fail> {
     let read = Perms::from_letters(b"r").ok_or("letters")?;
@@ -100,13 +92,6 @@ fn verdicts(rt: HostRuntime) -> Result<(), Fail> {
         },
     ];
     expect(&rt, rt.alloc(), &rows)
-}
-
-fn failed(errno: Errno, tree_version: u64) -> Answer {
-    Answer::Failed {
-        errno,
-        tree_version,
-    }
 }
 
 #[test]

@@ -3,13 +3,11 @@ use profile_questions::CompiledRules;
 use rule_reader::{Profile, read};
 use std::alloc::Global;
 use std::test::Fail;
+use test_parts::profile_text;
 
 // The profile of the rules of a text.
 fn profile(alloc: Global, rules: &[u8]) -> Result<Profile, Fail> {
-    let mut text = Vec::from_slice(alloc, b"profile p {\n")?;
-    text.extend_from_slice(rules)?;
-    text.extend_from_slice(b"\n}\n")?;
-    Ok(read(alloc, &text)?)
+    Ok(read(alloc, &profile_text(alloc, rules)?)?)
 }
 
 /// The rules of a text, compiled.

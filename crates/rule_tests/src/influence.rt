@@ -5,13 +5,11 @@ use rule_reader::{Profile, read};
 use std::alloc::Global;
 use std::process::Abort;
 use std::test::Fail;
+use test_parts::profile_text;
 
 /// The profile of the rules of a text.
 pub(crate) fn profile(alloc: Global, rules: &[u8]) -> Result<Profile, Fail> {
-    let mut text = Vec::from_slice(alloc, b"profile p {\n")?;
-    text.extend_from_slice(rules)?;
-    text.extend_from_slice(b"\n}\n")?;
-    Ok(read(alloc, &text)?)
+    Ok(read(alloc, &profile_text(alloc, rules)?)?)
 }
 
 // The rules of a profile, and for each of them the letters of what it decides.

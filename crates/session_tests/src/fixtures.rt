@@ -5,7 +5,7 @@ ghost use mathlib.Core.List.{IsPrefix};
 
 use dentry_cache::Keeper;
 use matcher::AnyProfile;
-use names::{Errno, NoMemory};
+use names::NoMemory;
 use path_session::{Answer, Session};
 use profile_registry::Publisher;
 use rule_text::Verdict;
@@ -13,7 +13,7 @@ use std::alloc::Global;
 use std::process::Abort;
 use std::sync::{Arc, Wait};
 use std::test::Fail;
-use storm_parts::{compiled, first_keeper, session};
+use storm_parts::{compiled, first_keeper, judged, session};
 use test_parts::perms;
 
 /// The file `/d/f` has this node.
@@ -81,20 +81,8 @@ pub(crate) fn first_session<R: Wait>(
 }
 
 /// The verdict on a file in the tree of a version, by the first profile that was published.
-pub(crate) fn judged(verdict: Verdict, node: u64, tree_version: u64) -> Answer {
-    Answer::Judged {
-        verdict,
-        node,
-        tree_version,
-        policy_version: 1,
-    }
-}
-
-pub(crate) fn failed(errno: Errno, tree_version: u64) -> Answer {
-    Answer::Failed {
-        errno,
-        tree_version,
-    }
+pub(crate) fn judged_first(verdict: Verdict, node: u64, tree_version: u64) -> Answer {
+    judged(verdict, node, tree_version, 1)
 }
 
 /// An open, and its expected outcome.
@@ -124,7 +112,12 @@ pub(crate) fn unjudged<'a>(path: &'a [u8], answer: Answer) -> Row<'a> {
 
 /// An open of a file that the first profile allows, along a link.
 pub(crate) fn allowed<'a>() -> Row<'a> {
-    opened(b"/l/f", b"r", judged(Verdict::Allowed, FILE, TREE), b"/d/f")
+    opened(
+        b"/l/f",
+        b"r",
+        judged_first(Verdict::Allowed, FILE, TREE),
+        b"/d/f",
+    )
 }
 
 /// Each session opens that file.

@@ -3,7 +3,7 @@ ghost use Rattle.std.specs.Prelude.{◌≡◌, ◌≤◌, ◌+◌};
 ghost use mathlib.Core.List.{IsPrefix};
 
 use crate::fixtures::{
-    FILE, Row, TREE, allowed, expect_beside, expect_with, failed, first_session, judged, opened,
+    FILE, Row, TREE, allowed, expect_beside, expect_with, first_session, judged_first, opened,
     publish, unjudged,
 };
 use dentry_cache::Keeper;
@@ -16,7 +16,7 @@ use std::alloc::Global;
 use std::process::Abort;
 use std::sync::Wait;
 use std::test::Fail;
-use storm_parts::{apply, compiled, new_publisher, select};
+use storm_parts::{apply, compiled, failed, new_publisher, select};
 use test_parts::{path, perms};
 
 /// How many verdicts a session keeps.
@@ -67,7 +67,7 @@ fn keep_and_find(rt: &impl Abort, session: &mut Session, keeper: &mut Keeper) ->
     let denied = opened(
         b"/d/k",
         b"w",
-        judged(Verdict::Denied { rule: 2 }, FILE + 1, TREE),
+        judged_first(Verdict::Denied { rule: 2 }, FILE + 1, TREE),
         b"/d/k",
     );
     expect_kept(rt, session, &[allowed(), denied], 0)?;
@@ -80,11 +80,16 @@ fn ask_otherwise(rt: &impl Abort, session: &mut Session) -> Result<(), Fail>
     ensures of { session.new.walk.table ≡ session.old.walk.table }
     ensures learned { session.new.reading.learned ≡ session.old.reading.learned }
 {
-    let by_name = opened(b"/d/f", b"r", judged(Verdict::Allowed, FILE, TREE), b"/d/f");
+    let by_name = opened(
+        b"/d/f",
+        b"r",
+        judged_first(Verdict::Allowed, FILE, TREE),
+        b"/d/f",
+    );
     let missing = Verdict::NoRule {
         missing: perms(b"k")?,
     };
-    let to_lock = opened(b"/l/f", b"rk", judged(missing, FILE, TREE), b"/d/f");
+    let to_lock = opened(b"/l/f", b"rk", judged_first(missing, FILE, TREE), b"/d/f");
     expect_kept(rt, session, &[by_name, to_lock], 0)?;
     select(session, b"q")?;
     let no_profile = unjudged(b"/l/f", Answer::NoProfile { policy_version: 1 });
@@ -119,7 +124,7 @@ fn open_in_a_new_tree(
     let there = opened(
         b"/e/f",
         b"r",
-        judged(Verdict::Allowed, FILE, TREE + 1),
+        judged_first(Verdict::Allowed, FILE, TREE + 1),
         b"/e/f",
     );
     expect_kept(rt, session, &[gone, there], 0)?;

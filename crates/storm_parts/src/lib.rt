@@ -1,8 +1,9 @@
 //! What storms, refused calls and tests of sessions share: profiles, scripts and questions that are drawn; the calls that `refusals`
 //! makes, how one may differ where memory is refused, calls that are made again, long results in short, and the changes and profiles
-//! that calls are made with; keepers, publishers and sessions.
+//! that calls are made with; keepers, publishers and sessions, and answers to opens.
 #![tactic(auto)]
 
+mod answers;
 mod call;
 mod changes;
 mod difference;
@@ -14,6 +15,7 @@ mod script;
 mod sessions;
 mod text_profiles;
 
+pub use answers::{failed, judged};
 pub use call::Call;
 pub use changes::{path, tree_changes};
 pub use difference::{Difference, How, Stop, expect};

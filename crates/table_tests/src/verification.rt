@@ -5,7 +5,7 @@ use std::process::Abort;
 use std::test::Fail;
 use table_image::{ImageFault, RawTable};
 use table_verifier::{LookUps, State, Steps, VerifiedTable, tables_in_bounds_run, verify};
-use test_parts::put;
+use test_parts::{fault_of, put, verified};
 
 mod altered;
 mod chains;
@@ -38,13 +38,6 @@ fn smallest(alloc: Global) -> Result<RawTable, Fail> {
 fn put_all(numbers: &mut Vec<u32>, places: &[(usize, u32)]) {
     for (place, number) in places {
         put(numbers, *place, *number);
-    }
-}
-
-fn fault_of(table: RawTable) -> Option<ImageFault> {
-    match verify(table) {
-        Ok(_) => None,
-        Err((fault, _)) => Some(fault),
     }
 }
 

@@ -1,5 +1,5 @@
 //! What tests share: test cases as programs of tests read them; numbers that look random, paths and changes that are drawn by them or
-//! written as lines; a small tree; texts of profiles, tables and their images; and rounds that threads begin together.
+//! written as lines; a small tree; texts of profiles, tables and their images, verified or not; and rounds that threads begin together.
 #![tactic(auto)]
 
 mod bytes;
@@ -12,6 +12,7 @@ mod raw_tables;
 mod rounds;
 mod texts;
 mod toy;
+mod verified;
 
 pub use bytes::bytes_of;
 pub use case::Case;
@@ -24,5 +25,6 @@ pub use raw_tables::{
     three_states_image,
 };
 pub use rounds::{ROUNDS, Rounds, share};
-pub use texts::{path, perms, perms_of};
+pub use texts::{path, perms, perms_of, profile_text};
 pub use toy::{EndsAfter, Place, SmallTree};
+pub use verified::{fault_of, is_accepted, verified};

@@ -1,5 +1,6 @@
-//! Paths and permissions, as tests write them.
-use names::{Path, Permission, Perms};
+//! Paths, permissions and profiles, as tests write them.
+use names::{Path, Perms};
+use std::alloc::{AllocError, Global};
 use std::test::Fail;
 
 /// The path of a text.
@@ -14,13 +15,13 @@ pub fn perms(letters: &[u8]) -> Result<Perms, Fail> {
 
 /// The set of the permissions that stand for the ones in a number's binary digits.
 pub fn perms_of(number: u8) -> Perms {
-    let mut perms = Perms::NONE;
-    let mut left = number;
-    for permission in &Permission::ALL {
-        if left % 2 == 1 {
-            perms = perms.with(*permission);
-        }
-        left /= 2;
-    }
-    perms
+    Perms::passing(|permission| (number >> permission.index()) % 2 == 1)
+}
+
+/// The text of a profile with these rules.
+pub fn profile_text(alloc: Global, rules: &[u8]) -> Result<Vec<u8>, AllocError> {
+    let mut text = Vec::from_slice(alloc, b"profile p {\n")?;
+    text.extend_from_slice(rules)?;
+    text.extend_from_slice(b"\n}\n")?;
+    Ok(text)
 }

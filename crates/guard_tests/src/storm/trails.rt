@@ -7,7 +7,7 @@ use rule_text::Verdict;
 use std::alloc::Global;
 use std::process::Abort;
 use std::test::Fail;
-use storm_parts::compiled;
+use storm_parts::{compiled, failed, judged};
 use test_parts::{Random, path, perms};
 
 // The file `/a/f` is node 3 at version 2, `/b/f` at version 3, and `/a/f` again at version 4. Node 4 takes its place at version 6.
@@ -40,22 +40,6 @@ fn policy(alloc: Global) -> Result<[PolicyChange; 6], Fail> {
         PolicyChange::Remove(Vec::from_slice(alloc, b"q")?),
         replaced(alloc, b"p", b"profile p {\n  /c w,\n}\n")?,
     ])
-}
-
-fn judged(verdict: Verdict, node: u64, tree_version: u64, policy_version: u64) -> Answer {
-    Answer::Judged {
-        verdict,
-        node,
-        tree_version,
-        policy_version,
-    }
-}
-
-fn failed(errno: Errno, tree_version: u64) -> Answer {
-    Answer::Failed {
-        errno,
-        tree_version,
-    }
 }
 
 // Expects the trail of `/a/f`, opened to read, to justify these answers by `p` or not, as listed.

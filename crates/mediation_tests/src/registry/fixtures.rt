@@ -1,14 +1,11 @@
-//! Profiles, and calls that are made again where memory is refused once, as `rt try --test --fail-alloc N` does it.
-ghost use Rattle.std.specs.Prelude.{OnOk, IfOk};
-
-use matcher::{AnyProfile, CompiledProfile, MakeFault};
-use names::NoMemory;
+//! Profiles, and what a reader finds.
+use matcher::AnyProfile;
 use profile_registry::{News, NoEntry, PolicyReader, Publisher};
-use rule_text::read;
 use std::alloc::Global;
 use std::process::Abort;
 use std::sync::{Arc, Wait};
 use std::test::Fail;
+use storm_parts::compiled;
 
 /// What a reader finds under a name.
 #[derive(Clone, Copy, Debug, PartialEq, Eq)]
@@ -19,12 +16,6 @@ pub(crate) enum Found {
     /// The one that is called `b`.
     B,
     Another,
-}
-
-/// The profile of a text, compiled.
-pub(crate) fn compiled(alloc: Global, text: &[u8]) -> Result<Arc<AnyProfile>, Fail> {
-    let compiled = CompiledProfile::make(alloc, read(alloc, text)?)?;
-    Ok(Arc::new(alloc, AnyProfile::Compiled(compiled))?)
 }
 
 pub(crate) fn profile_a(alloc: Global) -> Result<Arc<AnyProfile>, Fail> {
@@ -120,13 +111,5 @@ pub(crate) fn publish<R: Abort + Wait>(
             assert_eq!(rt; publisher.changes(), changes);
             Ok(publisher.publish(rt)?)
         }
-    }
-}
-
-/// Returns a new publisher. Where memory is refused once, the second call makes it.
-pub(crate) fn new_publisher(alloc: Global) -> Result<Publisher, NoMemory> {
-    match Publisher::new(alloc) {
-        Ok(publisher) => Ok(publisher),
-        Err(NoMemory) => Publisher::new(alloc),
     }
 }

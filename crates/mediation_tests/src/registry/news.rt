@@ -1,6 +1,6 @@
 //! Reading by a reader that knows a version.
 use crate::registry::fixtures::{
-    Found, look_since, new_publisher, profile_a, profile_b, publish, remove, replace,
+    Found, look_since, profile_a, profile_b, publish, remove, replace,
 };
 use matcher::AnyProfile;
 use profile_registry::{NoEntry, PolicyReader, Publisher};
@@ -8,6 +8,7 @@ use std::alloc::Global;
 use std::process::Abort;
 use std::sync::{Arc, Wait};
 use std::test::Fail;
+use storm_parts::new_publisher;
 
 // At this version, this is found under `p`, and nothing under `q`, unless the version is the known one.
 fn expect_news(

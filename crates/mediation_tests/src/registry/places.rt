@@ -1,9 +1,10 @@
 //! The places for readers.
-use crate::registry::fixtures::{Found, look, new_publisher};
+use crate::registry::fixtures::{Found, look};
 use profile_registry::{NoEntry, NoSeat, PLACES, PolicyReader, Publisher};
 use std::alloc::Global;
 use std::process::Abort;
 use std::test::Fail;
+use storm_parts::new_publisher;
 
 // Takes all places but one.
 fn take_places(alloc: Global, publisher: &mut Publisher) -> Result<Vec<PolicyReader>, Fail> {

@@ -1,13 +1,12 @@
 //! What is published, row by row.
-use crate::registry::fixtures::{
-    Found, look, new_publisher, profile_a, profile_b, publish, remove, replace,
-};
+use crate::registry::fixtures::{Found, look, profile_a, profile_b, publish, remove, replace};
 use matcher::AnyProfile;
 use profile_registry::{PolicyReader, Publisher};
 use std::alloc::Global;
 use std::process::Abort;
 use std::sync::{Arc, Wait};
 use std::test::Fail;
+use storm_parts::new_publisher;
 
 fn rows<R: Abort + Wait>(rt: &R, alloc: Global, publisher: &mut Publisher) -> Result<(), Fail> {
     let mut reader = publisher.reader()?;

@@ -1,5 +1,4 @@
 //! What a server does: it has one publisher, and a reader for each thread.
-use crate::registry::fixtures::{compiled, new_publisher};
 use matcher::{AnyProfile, judge};
 use names::{NoMemory, Permission, Perms, Verdict};
 use profile_registry::{NoSeat, PolicyReader, Publisher};
@@ -8,6 +7,7 @@ use std::process::Abort;
 use std::sync::{Arc, Mutex, MutexGuard, Wait};
 use std::test::Fail;
 use std::thread::{Threads, join};
+use storm_parts::{compiled, new_publisher};
 
 // The answer to a request.
 #[derive(Clone, Copy, Debug, PartialEq, Eq)]

@@ -1,5 +1,5 @@
 //! A publisher in one thread, and readers in two others.
-use crate::registry::fixtures::{Found, look, new_publisher, profile_a, profile_b};
+use crate::registry::fixtures::{Found, look, profile_a, profile_b};
 use matcher::AnyProfile;
 use names::NoMemory;
 use profile_registry::{PolicyReader, Publisher};
@@ -8,6 +8,7 @@ use std::process::Abort;
 use std::sync::{Arc, Wait};
 use std::test::Fail;
 use std::thread::{Threads, join};
+use storm_parts::new_publisher;
 
 // The last version. Each round of three changes replaces, replaces and removes.
 const LAST: u64 = 3 * ROUNDS;

@@ -24,13 +24,6 @@ fn shared(alloc: Global) -> Result<RawTable, Fail> {
     Ok(table)
 }
 
-fn verified(table: RawTable) -> Result<VerifiedTable, Fail> {
-    match verify(table) {
-        Ok(verified) => Ok(verified),
-        Err((fault, _)) => Err(Fail::from(fault)),
-    }
-}
-
 // The state after a state and a byte, in a table whose states have no depth: one step, of one look-up.
 fn look_up(
     rt: &impl Abort,
