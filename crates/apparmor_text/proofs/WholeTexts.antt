@@ -4,7 +4,7 @@ use Rattle.std.proofs.Common.{Some, None, Result, Ok, Err, refl, sym, ap, subst,
 use Rattle.rule_globs.specs.Each.{Each}
 use Rattle.apparmor_text.specs.declared.part.ItemKind.{ItemKind}
 use Rattle.apparmor_text.specs.declared.text.Position.{Position}
-use Rattle.apparmor_text.specs.Laws.{IsPart, IsItem}
+use Rattle.apparmor_text.specs.SoundItems.{IsPart, IsItem}
 use Rattle.apparmor_text.specs.Parts.{PartValue, ItemValue, bytes_of_parts, bytes_of_items}
 use Rattle.apparmor_words.specs.Steps.{Stop, syntax}
 use Rattle.apparmor_text.specs.Readings.{Reading}

@@ -6,6 +6,6 @@ pub mod Headers
 pub mod Assignments
 pub mod Rules
 pub mod Texts
-pub mod Laws
+pub mod SoundItems
 pub mod inner
 pub mod laws

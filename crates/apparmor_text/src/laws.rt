@@ -1,7 +1,7 @@
 //! Laws of the items of a text. The functions do nothing: each stands for its contract.
 ghost use Rattle.std.specs.Prelude.{◌≡◌, ◌++◌, ℕ, List, Option, Some, None};
 ghost use Rattle.rule_globs.specs.Each.{Each};
-ghost use Rattle.apparmor_text.specs.Laws.{IsItem};
+ghost use Rattle.apparmor_text.specs.SoundItems.{IsItem};
 ghost use Rattle.apparmor_text.specs.Parts.{ItemValue, bytes_of_items};
 ghost use Rattle.apparmor_words.specs.Steps.{Stop};
 ghost use Rattle.apparmor_text.specs.Texts.{ReadsItems};

@@ -9,7 +9,7 @@ use Rattle.apparmor_text.specs.declared.part.PartKind.{PartKind}
 use Rattle.apparmor_text.specs.declared.part.PartKind.TheVariants as kinds
 use Rattle.apparmor_text.specs.declared.part.ItemKind.{ItemKind}
 use Rattle.apparmor_text.specs.declared.part.ItemKind.TheVariants as items
-use Rattle.apparmor_text.specs.Laws.{IsPart, IsItem}
+use Rattle.apparmor_text.specs.SoundItems.{IsPart, IsItem}
 use Rattle.apparmor_text.specs.Parts.{PartValue, ItemValue, bytes_of_parts}
 use Rattle.apparmor_rules.specs.RuleParts.{no_effect, rule_whats}
 use Rattle.apparmor_rules.specs.RuleWords.{has_part}

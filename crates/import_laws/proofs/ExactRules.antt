@@ -3,7 +3,7 @@ use Rattle.std.proofs.Common.{◌≡◌, Bool, true, false, cond, List, [], ◌�
 use Rattle.std.specs.List.{All}
 use Rattle.std.proofs.lemmas.List.Elements.{All-cons, All-nil}
 use Rattle.rule_globs.specs.Each.{Each}
-use Rattle.apparmor_text.specs.Laws.{IsItem}
+use Rattle.apparmor_text.specs.SoundItems.{IsItem}
 use Rattle.apparmor_text.specs.Parts.{ItemValue}
 use Rattle.apparmor_variables.specs.Variables.{Variable}
 use Rattle.apparmor_rules.specs.declared.effect.Extent.{Extent}

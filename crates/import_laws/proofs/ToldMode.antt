@@ -7,7 +7,7 @@ use Rattle.apparmor_text.specs.declared.part.PartKind.{PartKind}
 use Rattle.apparmor_text.specs.declared.part.PartKind.TheVariants as kinds
 use Rattle.apparmor_text.specs.declared.part.ItemKind.{ItemKind}
 use Rattle.apparmor_text.specs.declared.part.ItemKind.TheVariants as items
-use Rattle.apparmor_text.specs.Laws.{IsPart, IsItem}
+use Rattle.apparmor_text.specs.SoundItems.{IsPart, IsItem}
 use Rattle.apparmor_text.specs.Parts.{PartValue, ItemValue}
 use Rattle.apparmor_rules.specs.declared.what.What.{What}
 use Rattle.apparmor_rules.specs.declared.what.What.TheVariants as whats

@@ -11,7 +11,7 @@ use Rattle.apparmor_text.specs.declared.part.PartKind.{PartKind}
 use Rattle.apparmor_text.specs.declared.part.PartKind.TheVariants as kinds
 use Rattle.apparmor_text.specs.declared.part.ItemKind.{ItemKind}
 use Rattle.apparmor_text.specs.declared.part.ItemKind.TheVariants as items
-use Rattle.apparmor_text.specs.Laws.{IsPart, IsItem}
+use Rattle.apparmor_text.specs.SoundItems.{IsPart, IsItem}
 use Rattle.apparmor_text.specs.Parts.{PartValue, ItemValue, bytes_of_parts}
 use Rattle.apparmor_rules.specs.RuleParts.{part_whats, part_effect, rule_whats}
 use Rattle.apparmor_rules.specs.RuleWords.{has_part}

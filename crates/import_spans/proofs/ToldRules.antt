@@ -14,7 +14,7 @@ use Rattle.names.specs.laws.PermissionSets.{one_found}
 use Rattle.rule_globs.specs.Each.{Each}
 use Rattle.apparmor_text.specs.declared.part.PartKind.{PartKind}
 use Rattle.apparmor_text.specs.declared.part.PartKind.TheVariants as kinds
-use Rattle.apparmor_text.specs.Laws.{IsPart, IsItem}
+use Rattle.apparmor_text.specs.SoundItems.{IsPart, IsItem}
 use Rattle.apparmor_text.specs.Parts.{PartValue, ItemValue, bytes_of_parts}
 use Rattle.apparmor_rules.specs.declared.marks.Marks.{Marks}
 use Rattle.apparmor_rules.specs.RuleParts.{if_so, rule_whats}

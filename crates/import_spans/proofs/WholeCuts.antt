@@ -2,7 +2,7 @@
 use Rattle.std.proofs.Common.{◌≡◌, ℕ, List, [], ◌∷◌, ◌++◌, refl, sym, subst, append_assoc, arith}
 use Rattle.std.proofs.lemmas.List.{append-nil}
 use Rattle.rule_globs.specs.Each.{Each}
-use Rattle.apparmor_text.specs.Laws.{IsItem}
+use Rattle.apparmor_text.specs.SoundItems.{IsItem}
 use Rattle.apparmor_text.specs.Parts.{ItemValue, bytes_of_parts, bytes_of_items}
 use Rattle.import_spans.specs.declared.cut.Phase.{Phase}
 use Rattle.import_spans.specs.declared.cut.Phase.TheVariants.{Skipping}

@@ -1,6 +1,6 @@
 -- Rules of the chosen profile, and what is reported of the spans that their text is cut into.
 use Rattle.std.specs.Prelude.{◌≡◌, ◌≤◌, ◌+◌, List, length, is_some, true}
-use Rattle.apparmor_text.specs.Laws.{IsItem}
+use Rattle.apparmor_text.specs.SoundItems.{IsItem}
 use Rattle.apparmor_text.specs.Parts.{PartValue, ItemValue, bytes_of_items, bytes_of_parts}
 use Rattle.apparmor_rules.specs.RuleParts.{marks_of}
 use Rattle.apparmor_rules.specs.RuleWords.{applies_to_of, perms_of_rule, target_of}

@@ -1,7 +1,7 @@
 //! Laws of the spans of a text. The functions do nothing: each stands for its contract.
 ghost use Rattle.std.specs.Prelude.{◌≡◌, ◌≢◌, ◌++◌, ◌∷◌, List, length, Contains};
 ghost use Rattle.rule_globs.specs.Each.{Each};
-ghost use Rattle.apparmor_text.specs.Laws.{IsItem};
+ghost use Rattle.apparmor_text.specs.SoundItems.{IsItem};
 ghost use Rattle.apparmor_text.specs.Parts.{ItemValue, bytes_of_items};
 ghost use Rattle.apparmor_rules.specs.Changes.{change};
 ghost use Rattle.import_spans.specs.declared.context.Choice.{Choice};

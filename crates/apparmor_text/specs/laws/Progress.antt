@@ -9,7 +9,7 @@ use Rattle.apparmor_text.specs.declared.part.PartKind.TheVariants as parts
 use Rattle.apparmor_text.specs.Parts.{PartValue, bytes_of_parts}
 use Rattle.apparmor_text.specs.Readings.{Reading, taken}
 use Rattle.apparmor_words.specs.Blanks.{is_blank}
-use Rattle.apparmor_text.specs.Laws.{IsPart}
+use Rattle.apparmor_text.specs.SoundItems.{IsPart}
 
 -- from one reading to another: the parts that came, and that the bytes are the same
 pub record Goes (s t : Reading) : Type 0 where

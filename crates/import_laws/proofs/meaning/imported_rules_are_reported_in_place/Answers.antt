@@ -1,7 +1,7 @@
 use Rattle.std.proofs.Common.{List, [], ◌∷◌, ◌++◌, refl, sym, ap, ◌∙◌, subst}
 use Rattle.std.specs.List.{Contains}
 use Rattle.rule_globs.specs.Each.{Each}
-use Rattle.apparmor_text.specs.Laws.{IsItem}
+use Rattle.apparmor_text.specs.SoundItems.{IsItem}
 use Rattle.apparmor_text.specs.Parts.{ItemValue}
 use Rattle.apparmor_rules.specs.Restatement.{shape_of}
 use Rattle.apparmor_rules.specs.Subjects.{other_subject}
