@@ -5,10 +5,6 @@ use Rattle.apparmor_variables.specs.declared.refusal.Refusal.TheVariants.{Nothin
 use Rattle.apparmor_variables.specs.Pieces.{Text}
 use Rattle.apparmor_variables.specs.inner.AddedBytes.{Refused}
 
--- a part that was added precedes what is still to come
-pub part_added : (whole now new part rest : Text) → now ++ (part ++ rest) ≡ whole → new ≡ now ++ part → new ++ rest ≡ whole
-part_added whole now new part rest is added = ap (λ (x : Text). x ++ rest) added ∙ append_assoc now part rest ∙ is
-
 -- where a part exceeds the limit, the whole does
 pub part_refused : (refusal : Refusal) (old more now part rest : Text) → now ++ (part ++ rest) ≡ old ++ more → Refused refusal now part →
     Refused refusal old more

@@ -67,17 +67,17 @@ no_shorter known so_far (p ∷ ps) text e =
     omega (arith, rest, longer)
 
 -- where a piece exceeds the limit, the whole does
-pub piece_refused : (refusal : Refusal) (known : Known) (now new : Text) (ps : List Piece) (before behind : Bool) (o : Option (List Text))
-    (text : Text)
-    → before ≡ ends_with_slash now → behind ≡ begins_with_slash ps → AddsPiece {X = Unit {0}} (Err refusal) now new before behind o →
+pub piece_refused : (refusal : Refusal) (known : Known) (Holds : Text → Type 0) (now : Text) (ps : List Piece) (before behind : Bool)
+    (o : Option (List Text)) (text : Text)
+    → before ≡ ends_with_slash now → behind ≡ begins_with_slash ps → AddsPiece {X = Unit {0}} (Err refusal) Holds now before behind o →
     option_and_then (gone_on known now ps) o ≡ Some text → Exceeds refusal text
-piece_refused refusal known now new ps before behind None text front back h e = absurd cc
-piece_refused refusals.Nothing known now new ps before behind (Some texts) text front back h e =
+piece_refused refusal known Holds now ps before behind None text front back h e = absurd cc
+piece_refused refusals.Nothing known Holds now ps before behind (Some texts) text front back h e =
     let long = subst (λ (t : Bool). most_bytes < length (now ++ in_place t (begins_with_slash ps) texts)) front
     (subst (λ (t : Bool). most_bytes < length (now ++ in_place before t texts)) back h) in
     let rest = no_shorter known (further now ps texts) ps text e in
     omega (arith, long, rest)
-piece_refused refusals.NoMemory known now new ps before behind (Some texts) text front back h e = tt
+piece_refused refusals.NoMemory known Holds now ps before behind (Some texts) text front back h e = tt
 
 -- ---- what is reported
 

@@ -1,47 +1,48 @@
 //! Bytes added to a text that may not become too long.
-ghost use Rattle.std.specs.Prelude.{◌≡◌, ◌≤◌, ◌<◌, ◌∷◌, length};
+ghost use Rattle.std.specs.Prelude.{◌≡◌, ◌∷◌, ℕ, List};
 ghost use Rattle.apparmor_variables.specs.PathTexts.{without_leading_slashes, without_trailing_slashes, alternative, alternatives};
 ghost use Rattle.apparmor_variables.specs.PathTexts.{in_place};
-ghost use Rattle.apparmor_variables.specs.Variables.{most_bytes};
 ghost use Rattle.apparmor_variables.specs.inner.AddedBytes.{Adds};
 
 use crate::refusal::Refusal;
-use crate::texts::{MOST_BYTES, Texts};
+use crate::sink::Sink;
+use crate::texts::Texts;
 
 /// Adds the texts of a list in place of a use. The flags say whether a slash is directly before it, and directly after it.
-pub(crate) fn add_list(
-    text: &mut Vec<u8>,
+pub(crate) fn add_list<S: Sink>(
+    sink: &mut S,
     list: &Texts,
     slash_before: bool,
     slash_behind: bool,
 ) -> Result<(), Refusal>
-    ensures { Adds result text.old.items text.new.items (in_place slash_before slash_behind list.now) }
+    ensures { (text : List ℕ) → S.Holds sink.old text → Adds result (S.Holds sink.new) text
+        (in_place slash_before slash_behind list.now) }
 {
     if list.len() == 1 {
-        return add(text, list.text(0));
+        return sink.add(list.text(0));
     }
-    add(text, b"{")?;
-    add_alternatives(text, list, slash_before, slash_behind)?;
-    add(text, b"}")
+    sink.add(b"{")?;
+    add_alternatives(sink, list, slash_before, slash_behind)?;
+    sink.add(b"}")
 }
 
 /// Adds the texts of a group.
-fn add_alternatives(
-    text: &mut Vec<u8>,
+fn add_alternatives<S: Sink>(
+    sink: &mut S,
     list: &Texts,
     slash_before: bool,
     slash_behind: bool,
 ) -> Result<(), Refusal>
-    requires { length text.old.items ≤ most_bytes }
-    ensures { Adds result text.old.items text.new.items (alternatives slash_before slash_behind list.now) }
+    ensures { (text : List ℕ) → S.Holds sink.old text → Adds result (S.Holds sink.new) text
+        (alternatives slash_before slash_behind list.now) }
 {
     if list.len() == 0 {
         return Ok(());
     }
-    add(text, alternative(slash_before, slash_behind, list.text(0)))?;
+    sink.add(alternative(slash_before, slash_behind, list.text(0)))?;
     for place in 1..list.len() {
         add_further(
-            text,
+            sink,
             alternative(slash_before, slash_behind, list.text(place)),
         )?;
     }
@@ -49,22 +50,11 @@ fn add_alternatives(
 }
 
 /// Adds a further text of a group.
-fn add_further(text: &mut Vec<u8>, more: &[u8]) -> Result<(), Refusal>
-    ensures { Adds result text.old.items text.new.items (44 ∷ more.now) }
+fn add_further<S: Sink>(sink: &mut S, more: &[u8]) -> Result<(), Refusal>
+    ensures { (text : List ℕ) → S.Holds sink.old text → Adds result (S.Holds sink.new) text (44 ∷ more.now) }
 {
-    add(text, b",")?;
-    add(text, more)
-}
-
-/// Appends these bytes to the text.
-pub(crate) fn add(text: &mut Vec<u8>, more: &[u8]) -> Result<(), Refusal>
-    ensures { Adds result text.old.items text.new.items more.now }
-{
-    if text.len().saturating_add(more.len()) > MOST_BYTES {
-        return Err(Refusal::Nothing);
-    }
-    text.extend_from_slice(more)?;
-    Ok(())
+    sink.add(b",")?;
+    sink.add(more)
 }
 
 /// Returns a text of a group without its slashes that are next to slashes already there.

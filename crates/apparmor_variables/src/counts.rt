@@ -16,7 +16,7 @@ use std::alloc::Global;
 const MOST_LIST_COUNT: usize = MOST_BYTES + TEXT_SHARE * MOST_TEXTS;
 
 /// Returns the sum, if it is at most `most`.
-fn sum(one: usize, other: usize, most: usize) -> Option<usize>
+pub(crate) fn sum(one: usize, other: usize, most: usize) -> Option<usize>
     ensures { AtMost (λ n. n ≡ one + other) most result }
 {
     match one.checked_add(other) {

@@ -16,6 +16,7 @@ mod one_list;
 mod pieces;
 mod placement;
 mod refusal;
+mod sink;
 mod slashes;
 mod texts;
 mod variables;

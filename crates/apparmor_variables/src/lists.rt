@@ -1,5 +1,5 @@
 //! Path texts with the variables put in place.
-ghost use Rattle.std.specs.Prelude.{◌≡◌, IfOk, IfErr, OnOk, OnErr};
+ghost use Rattle.std.specs.Prelude.{◌≡◌, ℕ, List, [], length, IfOk, IfErr, OnOk, OnErr};
 ghost use Rattle.apparmor_variables.specs.Counts.{AtMost, OthersCount};
 ghost use Rattle.apparmor_variables.specs.Pieces.{used_names};
 ghost use Rattle.apparmor_variables.specs.Variables.{with_first_value};
@@ -14,6 +14,7 @@ use crate::fault::ExpandFault;
 use crate::made_lists::Made;
 use crate::pieces::{Piece, split_piece};
 use crate::placement::put_in_place;
+use crate::sink::{Measure, Sink};
 use crate::variables::Variable;
 use names::NoMemory;
 use std::alloc::{AllocError, Global};
@@ -85,9 +86,38 @@ impl<'t> Lists<'t> {
         ensures fault { IfErr result (λ fault. Tells (PathProblem self.old path.now) fault) }
         ensures variables { self.new ≡ self.old }
     {
-        make_used(alloc, &self.declared, &mut self.made, path)?;
-        let text = put_in_place(alloc, &self.declared, &self.made.lists, path)?;
+        let mut text = Vec::new(alloc);
+        self.add_to(alloc, &mut text, path)?;
         Ok(text)
+    }
+
+    /// Returns the length of the text of a path with its variables put in place, or the reason that [`Lists::substitute`] returns
+    /// why there is none. The text isn't made.
+    pub fn measure(&mut self, alloc: Global, path: &'t [u8]) -> Result<usize, ExpandFault<'t>>
+        ensures length { IfOk result (λ n. (text : List ℕ) × IsSubstituted self.old path.now text × (n ≡ length text)) }
+        ensures fault { IfErr result (λ fault. Tells (PathProblem self.old path.now) fault) }
+        ensures variables { self.new ≡ self.old }
+    {
+        let mut measure = Measure::empty();
+        self.add_to(alloc, &mut measure, path)?;
+        Ok(measure.length())
+    }
+
+    /// Adds the text of a path with its variables put in place to what is still empty.
+    fn add_to<S: Sink>(
+        &mut self,
+        alloc: Global,
+        sink: &mut S,
+        path: &'t [u8],
+    ) -> Result<(), ExpandFault<'t>>
+        requires { S.Holds sink.old [] }
+        ensures text { OnOk result ((text : List ℕ) × IsSubstituted self.old path.now text × S.Holds sink.new text) }
+        ensures fault { IfErr result (λ fault. Tells (PathProblem self.old path.now) fault) }
+        ensures variables { self.new ≡ self.old }
+    {
+        make_used(alloc, &self.declared, &mut self.made, path)?;
+        put_in_place(sink, &self.declared, &self.made.lists, path)?;
+        Ok(())
     }
 }
 

@@ -1,16 +1,13 @@
--- The text followed by what the rest becomes is the whole, if there is a whole.
-use Rattle.std.proofs.Common.{◌≡◌, ◌≤◌, length}
+-- The text so far followed by what the rest becomes is the whole, if there is a whole.
+use Rattle.std.proofs.Common.{◌≡◌, List, ℕ, length}
 use Rattle.apparmor_variables.specs.Pieces.{pieces}
 use Rattle.apparmor_variables.specs.PathTexts.{text_of, path_text}
-use Rattle.apparmor_variables.specs.Variables.{most_bytes}
 use Rattle.apparmor_variables.specs.inner.Known.{known_in}
 use Rattle.apparmor_variables.proofs.placement.put_in_place.Given as goal
 
 abbrev pub invariant-loop-piece : goal.invariant-loop-piece
-invariant-loop-piece l = record {
-  whole : text_of (known_in l.declared l.made) l.text.items (pieces l.rest) ≡ path_text (known_in l.declared l.made) l.path;
-  short : length l.text.items ≤ most_bytes;
-}
+invariant-loop-piece g l = (now : List ℕ) × g.S.Sink.Holds l.sink now
+    × (text_of (known_in l.declared l.made) now (pieces l.rest) ≡ path_text (known_in l.declared l.made) l.path)
 
 abbrev pub decreases-loop-piece : goal.decreases-loop-piece
-decreases-loop-piece l = length l.rest
+decreases-loop-piece g l = length l.rest
