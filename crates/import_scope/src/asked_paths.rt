@@ -1,5 +1,5 @@
 //! The pass over the paths that are asked.
-ghost use Rattle.std.specs.Prelude.{◌≡◌, ◌≤◌, List, IfOk, IfErr, OnOk, Some, None, true, map, option_map, unwrap_or};
+ghost use Rattle.std.specs.Prelude.{◌≡◌, ◌≤◌, ℕ, List, length, IfOk, IfErr, OnOk, Some, None, true, map, option_map, unwrap_or};
 ghost use Rattle.apparmor_variables.specs.PathTexts.{IsSubstituted};
 ghost use Rattle.apparmor_variables.specs.Variables.{Variable as DeclaredVariable};
 ghost use Rattle.import_scope.specs.FirstFaults.{most_together, nothing_counted, is_last, variables_within};
@@ -103,17 +103,17 @@ impl<'a> Seen<'a> {
         }
     }
 
-    /// Counts a text, and returns whether it isn't too much together.
-    fn count_text(&mut self, text: &[u8]) -> bool
+    /// Counts a text of so many bytes, and returns whether it isn't too much together.
+    fn count_text(&mut self, bytes: usize) -> bool
         requires { self.old.bytes ≤ most_together }
-        ensures count { CountsText result text.now self.old.bytes self.new.bytes }
+        ensures count { CountsText result bytes self.old.bytes self.new.bytes }
         ensures profile { self.new.profile ≡ self.old.profile }
         ensures lists { self.new.lists ≡ self.old.lists }
     {
-        if text.len() > MOST_TOGETHER - self.bytes {
+        if bytes > MOST_TOGETHER - self.bytes {
             return false;
         }
-        self.bytes += text.len();
+        self.bytes += bytes;
         true
     }
 
@@ -142,7 +142,7 @@ impl<'a> Seen<'a> {
         }
     }
 
-    /// Puts the variables, as they are, in place in a path, and counts its text. Returns the fault, if there is one.
+    /// Measures the text of a path with the variables, as they are, in place, and counts it. Returns the fault, if there is one.
     fn place(&mut self, alloc: Global, asked: Asked<'a>) -> Result<Option<ScopeFault>, AllocError>
         requires { self.old.bytes ≤ most_together }
         ensures lists { self.new.lists ≡ self.old.lists }
@@ -150,9 +150,9 @@ impl<'a> Seen<'a> {
         ensures fault { IfOk result (λ fault. Places self.old.lists asked.entry.path.now asked.entry.place (option_map fault_value fault)
             self.old.bytes self.new.bytes) }
     {
-        match text_of(alloc, &mut self.lists, asked)? {
-            Ok(text) => {
-                if self.count_text(&text) {
+        match length_of(alloc, &mut self.lists, asked)? {
+            Ok(length) => {
+                if self.count_text(length) {
                     Ok(None)
                 } else {
                     Ok(Some(fault_at(asked, ScopeFaultKind::TooMuch)))
@@ -163,19 +163,20 @@ impl<'a> Seen<'a> {
     }
 }
 
-/// The text of a path with the variables in place, or its fault if it has none.
-fn text_of<'a>(
+/// The length of the text of a path with the variables in place, or its fault if it has none. The text isn't made.
+fn length_of<'a>(
     alloc: Global,
     lists: &mut Lists<'a>,
     asked: Asked<'a>,
-) -> Result<Result<Vec<u8>, ScopeFault>, AllocError>
+) -> Result<Result<usize, ScopeFault>, AllocError>
     ensures lists { lists.new ≡ lists.old }
-    ensures text { IfOk result (λ r. IfOk r (λ text. IsSubstituted lists.old asked.entry.path.now text.items)) }
+    ensures length { IfOk result (λ r. IfOk r
+        (λ n. (text : List ℕ) × IsSubstituted lists.old asked.entry.path.now text × (n ≡ length text))) }
     ensures fault { IfOk result
         (λ r. IfErr r (λ fault. IsPathFault lists.old asked.entry.path.now asked.entry.place (fault_value fault))) }
 {
-    let kind = match lists.substitute(alloc, asked.path) {
-        Ok(text) => return Ok(Ok(text)),
+    let kind = match lists.measure(alloc, asked.path) {
+        Ok(length) => return Ok(Ok(length)),
         Err(ExpandFault::NoMemory) => return Err(AllocError),
         Err(ExpandFault::TooLong) => ScopeFaultKind::TooLong,
         Err(ExpandFault::Undefined { name }) => {

@@ -31,10 +31,10 @@ abbrev pub CountsLists : Bool → List Variable → ℕ → ℕ → Bool → Typ
 CountsLists last variables old new true = (n : ℕ) × CountBefore last variables n × (new ≡ old + n) × (new ≤ most_together)
 CountsLists last variables old new false = (n : ℕ) × CountBefore last variables n × (most_together < old + n)
 
--- A text was counted; or that is too much together.
-abbrev pub CountsText : Bool → List ℕ → ℕ → ℕ → Type 0
-CountsText true text old new = (new ≡ old + length text) × (new ≤ most_together)
-CountsText false text old new = most_together < old + length text
+-- A text of so many bytes was counted; or that is too much together.
+abbrev pub CountsText : Bool → ℕ → ℕ → ℕ → Type 0
+CountsText true bytes old new = (new ≡ old + bytes) × (new ≤ most_together)
+CountsText false bytes old new = most_together < old + bytes
 
 -- a path has no text with these variables in place, and this is its fault
 pub record IsPathFault (variables : List Variable) (path : List ℕ) (place : ℕ) (fault : Fault) : Type 0 where
