@@ -31,7 +31,7 @@ abbrev pub CountsLists : Bool → List Variable → ℕ → ℕ → Bool → Typ
 CountsLists last variables old new true = (n : ℕ) × CountBefore last variables n × (new ≡ old + n) × (new ≤ most_together)
 CountsLists last variables old new false = (n : ℕ) × CountBefore last variables n × (most_together < old + n)
 
--- A text of so many bytes was counted; or that is too much together.
+-- A text of this many bytes was counted; or that is too much together.
 abbrev pub CountsText : Bool → ℕ → ℕ → ℕ → Type 0
 CountsText true bytes old new = (new ≡ old + bytes) × (new ≤ most_together)
 CountsText false bytes old new = most_together < old + bytes

@@ -21,8 +21,8 @@ returns-clause-text g c =
       subst (λ (vs : List Variable). IsSubstituted vs path placed.0) c.self.view_is
           (record {
             levels = n;
-            is = text_more (known_in variables made.lists.items) (list_at n variables) c.in_ok-make_used.ensures.sound.right [] (pieces path)
-                placed.0 is;
+            is = text_more (known_in variables made.lists.items) (list_at n variables) c.in_ok-make_used.ensures.sound.right []
+                (pieces path) placed.0 is;
             short = g.met.S.Sink.short c.put_in_place.new.sink placed.0 placed.2;
           }),
       placed.2,
