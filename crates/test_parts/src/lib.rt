@@ -12,7 +12,7 @@ mod raw_tables;
 mod rounds;
 mod texts;
 mod toy;
-mod verified;
+mod verification;
 
 pub use bytes::bytes_of;
 pub use case::Case;
@@ -27,4 +27,4 @@ pub use raw_tables::{
 pub use rounds::{ROUNDS, Rounds, share};
 pub use texts::{path, perms, perms_of, profile_text};
 pub use toy::{EndsAfter, Place, SmallTree};
-pub use verified::{fault_of, is_accepted, verified};
+pub use verification::{fault_of, is_accepted, verified};
