@@ -1,3 +1,5 @@
+ghost use Rattle.std.specs.Prelude.{◌≡◌};
+
 use names::{Errno, Verdict};
 
 /// The answer to an open where the tree and the policy may change meanwhile.
@@ -26,4 +28,34 @@ pub enum Answer {
     },
     /// The entry into the policy was refused; nothing was read.
     NoEntry,
+}
+
+impl From<mediation::Answer> for Answer {
+    ghost use Rattle.justification.specs.Answers.{of_still};
+
+    ghost from_gives = { λ still answer. answer ≡ of_still still };
+
+    fn from(still: mediation::Answer) -> Answer {
+        match still {
+            mediation::Answer::Judged {
+                verdict,
+                node,
+                tree_version,
+                policy_version,
+            } => Answer::Judged {
+                verdict,
+                node,
+                tree_version,
+                policy_version,
+            },
+            mediation::Answer::Failed {
+                errno,
+                tree_version,
+            } => Answer::Failed {
+                errno,
+                tree_version,
+            },
+            mediation::Answer::NoProfile { policy_version } => Answer::NoProfile { policy_version },
+        }
+    }
 }

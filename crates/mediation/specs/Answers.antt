@@ -1,10 +1,12 @@
 -- What answers represent, with the name that was judged.
-use Rattle.std.specs.Prelude.{ℕ, List, []}
+use Rattle.std.specs.Prelude.{◌≡◌, ◌⊎◌, ℕ, List, [], Result, Ok, Err}
+use Rattle.names.specs.declared.errors.Errno.{Errno}
 use Rattle.rule_judge.specs.declared.links.LinkVerdict.TheVariants.{Fine}
 use Rattle.mediation.specs.declared.answer.Answer.{Answer}
 use Rattle.mediation.specs.declared.answer.Answer.TheVariants.{Judged, Failed, NoProfile}
 use Rattle.mediation.specs.declared.answer.LinkAnswer.{LinkAnswer}
 use Rattle.mediation.specs.declared.answer.LinkAnswer.TheVariants as link
+use Rattle.mediation.specs.declared.opens.Judged as code
 use Rattle.mediation.specs.Opens.{Answered, judged, failed, no_profile}
 use Rattle.mediation.specs.Links as linking
 use Rattle.mediation.specs.Links.{LinkAnswered}
@@ -13,6 +15,12 @@ abbrev pub answered : List ℕ → Answer → Answered
 answered name (Judged verdict node tree policy) = judged (record { name = name; node = node; verdict = verdict }) tree policy
 answered name (Failed errno tree) = failed errno tree
 answered name (NoProfile policy) = no_profile policy
+
+-- the answer to an open that ended so, and the length of the name that it judged
+abbrev pub IsAnswerTo : Result code.Judged Errno → ℕ → ℕ → Answer → ℕ → Type 0
+IsAnswerTo opened tree policy answer length =
+    ((file : code.Judged) × (opened ≡ Ok file) × (answer ≡ Judged file.verdict file.node tree policy) × (length ≡ file.name_length))
+    ⊎ ((errno : Errno) × (opened ≡ Err errno) × (answer ≡ Failed errno tree) × (length ≡ 0))
 
 -- the name that an open judged, empty if it judged none
 abbrev pub name_opened : Answered → List ℕ

@@ -22,7 +22,7 @@ mod publication;
 mod published_profiles;
 mod tree;
 
-pub use answer::{Answer, LinkAnswer};
+pub use answer::{Answer, LinkAnswer, answer_to_open};
 pub use bench::Bench;
 pub use laws::{tables_of_rules_judge_as_their_rules, told_is_the_one_verdict};
 pub use links::{JudgedLink, judge_names};

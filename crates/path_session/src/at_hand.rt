@@ -12,7 +12,7 @@ ghost use Rattle.path_session.specs.KeeperStates.{history_of};
 use crate::session::Session;
 use crate::unanswered::Unanswered;
 use dentry_cache::Keeper;
-use mediation::{Answer, LinkAnswer, link_by};
+use mediation::{Answer, LinkAnswer, answer_to_open, link_by};
 use names::{NoMemory, Perms};
 use profile_registry::{NoEntry, Publisher};
 
@@ -59,21 +59,9 @@ impl Session {
             &mut self.scratch,
             &mut self.name,
         );
-        match opened {
-            Err(errno) => Ok(Answer::Failed {
-                errno,
-                tree_version,
-            }),
-            Ok(file) => {
-                self.name_length = file.name_length;
-                Ok(Answer::Judged {
-                    verdict: file.verdict,
-                    node: file.node,
-                    tree_version,
-                    policy_version,
-                })
-            }
-        }
+        let (answer, name_length) = answer_to_open(opened, tree_version, policy_version);
+        self.name_length = name_length;
+        Ok(answer)
     }
 
     /// Makes a hard link as [`link_with`](Session::link_with) does, using all that the publisher has published. The session's

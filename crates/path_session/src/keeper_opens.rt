@@ -22,7 +22,7 @@ use crate::knowledge::Knowledge;
 use crate::session::Session;
 use dentry_cache::Keeper;
 use justification::Answer;
-use mediation::{Judged, Reached, reach_file};
+use mediation::{Judged, Reached, answer_to_open, reach_file};
 use names::{Errno, Perms};
 use path_lookup::{NAME_ROOM, Scratch, WalkFault};
 use verdict_cache::Question;
@@ -67,21 +67,9 @@ impl Session {
             &mut self.scratch,
             &mut self.name,
         );
-        match opened {
-            Err(errno) => Answer::Failed {
-                errno,
-                tree_version,
-            },
-            Ok(file) => {
-                self.name_length = file.name_length;
-                Answer::Judged {
-                    verdict: file.verdict,
-                    node: file.node,
-                    tree_version,
-                    policy_version,
-                }
-            }
-        }
+        let (answer, name_length) = answer_to_open(opened, tree_version, policy_version);
+        self.name_length = name_length;
+        Answer::from(answer)
     }
 
     /// Meets the keeper: the session has then seen all changes of the tree. It reads no count, and waits for nobody.

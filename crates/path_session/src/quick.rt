@@ -20,7 +20,7 @@ use crate::session::Session;
 use dentry_cache::{Attempt, Busy, Walker};
 use justification::Answer;
 use kept_verdicts::KeptVerdicts;
-use mediation::{Judged, Reached, reach_file};
+use mediation::{Judged, Reached, answer_to_open, reach_file};
 use names::{Errno, Perms};
 use path_lookup::{NAME_ROOM, Scratch, WalkFault};
 use tree_row::RowLook;
@@ -62,30 +62,12 @@ impl Session {
             &mut self.name,
         );
         match opened {
-            Err(Busy { began, ended }) => Answer::Busy { began, ended },
-            Ok(
-                Opened {
-                    tree_version,
-                    file: Err(errno),
-                },
-            ) => Answer::Failed {
-                errno,
-                tree_version,
-            },
-            Ok(
-                Opened {
-                    tree_version,
-                    file: Ok(file),
-                },
-            ) => {
-                self.name_length = file.name_length;
-                Answer::Judged {
-                    verdict: file.verdict,
-                    node: file.node,
-                    tree_version,
-                    policy_version,
-                }
+            Ok(Opened { tree_version, file }) => {
+                let (answer, name_length) = answer_to_open(file, tree_version, policy_version);
+                self.name_length = name_length;
+                Answer::from(answer)
             }
+            Err(Busy { began, ended }) => Answer::Busy { began, ended },
         }
     }
 }

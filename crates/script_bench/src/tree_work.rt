@@ -6,7 +6,7 @@ use crate::tree::BenchTree;
 use crate::tree_bench::TreeBench;
 use directory_tree::Change;
 use matcher::{CompiledProfile, MakeFault, PolicyChange};
-use mediation::{Answer, Bench, LinkAnswer, Policy, link_by, replacement};
+use mediation::{Answer, Bench, LinkAnswer, Policy, answer_to_open, link_by, replacement};
 use names::{Errno, NoMemory, Perms};
 use path_lookup::{NAME_ROOM, Scratch};
 use rule_profile::Profile;
@@ -50,21 +50,9 @@ impl<T: BenchTree> Bench for TreeBench<T> {
         let judged = self
             .tree
             .judge_file(published, path, ask, &mut self.scratch, &mut self.name);
-        match judged {
-            Ok(judged) => {
-                self.name_length = judged.name_length;
-                Ok(Answer::Judged {
-                    verdict: judged.verdict,
-                    node: judged.node,
-                    tree_version,
-                    policy_version,
-                })
-            }
-            Err(errno) => Ok(Answer::Failed {
-                errno,
-                tree_version,
-            }),
-        }
+        let (answer, name_length) = answer_to_open(judged, tree_version, policy_version);
+        self.name_length = name_length;
+        Ok(answer)
     }
 
     fn link(&mut self, profile: &[u8], old: &[u8], new: &[u8]) -> Result<LinkAnswer, NoMemory> {
