@@ -99,3 +99,24 @@ fn most_bytes(rt: HostRuntime) -> Result<(), Fail> {
     assert!(rt; told);
     Ok(())
 }
+
+#[test]
+fn texts_are_measured(rt: HostRuntime) -> Result<(), Fail> {
+    let alloc = rt.alloc();
+    let mut values = Vec::new(alloc);
+    values.push(b"/x/".as_slice())?;
+    values.push(b"y".as_slice())?;
+    let mut variables = Vec::new(alloc);
+    variables.push(Variable::new(alloc, b"A", values)?)?;
+    let mut lists = Lists::new(alloc, variables)?;
+    for path in [b"/@{A}/@{A}".as_slice(), b"@{A}", b"/z"] {
+        let length = lists.measure(alloc, path)?;
+        assert_eq!(rt; length, lists.substitute(alloc, path)?.len());
+    }
+    let told = matches!(
+        lists.measure(alloc, b"/@{U}"),
+        Err(ExpandFault::Undefined { name: b"U" })
+    );
+    assert!(rt; told);
+    Ok(())
+}
