@@ -17,7 +17,7 @@ priority_digits bytes = leading is_ascii_digit (past_sign (priority_number bytes
 -- the decimal number that these digits follow
 abbrev pub decimal_from : ℕ → List ℕ → ℕ
 decimal_from number [] = number
-decimal_from number (d ∷ digits) = decimal_from (number * 10 + (d - 48)) digits
+decimal_from number (d ∷ digits) = decimal_from (number * 10 + (d - ascii.digit_0)) digits
 
 -- - is 45
 abbrev pub priority_of_text : List ℕ → Priority

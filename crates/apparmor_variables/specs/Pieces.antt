@@ -48,7 +48,7 @@ used_name (b ∷ bytes) = if b == ascii.open_brace then closed_name bytes else N
 
 -- the piece that a backslash forms with the bytes after it
 abbrev pub escape : Text → Piece
-escape [] = byte 92
+escape [] = byte ascii.backslash
 escape (b ∷ bytes) = escaped b
 
 -- the piece that begins with this byte and continues with these

@@ -49,7 +49,7 @@ is_same_mode m n = is_same_letter m.change n.change && is_same_letter m.otherwis
 
 -- a mode with i lets the program's file be mapped
 abbrev pub inherits : ExecMode → Bool
-inherits m = is_same_letter m.otherwise (Some 105)
+inherits m = is_same_letter m.otherwise (Some ascii.letter_i)
 
 -- the mode differs from one before it
 abbrev pub differs_from : ExecMode → Option ExecMode → Bool

@@ -5,7 +5,7 @@ use Rattle.names.specs.Ascii as ascii
 use Rattle.names.specs.Paths.{components}
 
 abbrev pub slash : ℕ
-slash = 47
+slash = ascii.slash
 
 -- `.`
 abbrev pub dot : List ℕ

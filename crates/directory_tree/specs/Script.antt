@@ -74,7 +74,7 @@ run_of b (suc n) = b ∷ run_of b n
 -- directories of 255 bytes, each in the one before
 abbrev pub deep_path : ℕ → List ℕ
 deep_path zero = []
-deep_path (suc n) = slash ∷ (run_of 97 255 ++ deep_path n)
+deep_path (suc n) = slash ∷ (run_of ascii.letter_a 255 ++ deep_path n)
 
 abbrev pub deep : ℕ → List Change
 deep zero = []

@@ -1,5 +1,6 @@
 -- The sets of live places of a profile's rules, and how many different ones the prefixes of names have.
 use Rattle.std.specs.Prelude.{◌≡◌, ◌↔◌, ℕ, ◌+◌, ◌<◌, ◌≤◌, List, [], ◌∷◌, length, All, slice_index_or}
+use Rattle.names.specs.Ascii as ascii
 use Rattle.rule_globs.specs.LiveSteps.{IsLeftFirst}
 use Rattle.rule_profile.specs.Profile.{RuleValue, pattern}
 use Rattle.rule_globs.specs.Verdict.{IsRuleAt}
@@ -21,7 +22,7 @@ NoneLive rules bytes = (n p : ℕ) → ¬ (IsLive rules bytes n p)
 -- a prefix of a name: nothing, or bytes other than 0, the first of which is a slash
 abbrev pub IsPrefixOfName : List ℕ → Type 0
 IsPrefixOfName [] = Unit {0}
-IsPrefixOfName (b ∷ bytes) = (b ≡ 47) × All (λ c. (0 < c) × (c < 256)) bytes
+IsPrefixOfName (b ∷ bytes) = (b ≡ ascii.slash) × All (λ c. (0 < c) × (c < 256)) bytes
 
 -- no two of these prefixes of names have the same set, and none has the empty one
 pub record AreDifferent (rules : List RuleValue) (prefixes : List (List ℕ)) : Type 0 where

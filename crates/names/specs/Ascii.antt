@@ -85,6 +85,9 @@ caret = 94
 abbrev pub underscore : ℕ
 underscore = 95
 
+abbrev pub letter_a : ℕ
+letter_a = 97
+
 abbrev pub letter_b : ℕ
 letter_b = 98
 
@@ -94,11 +97,26 @@ letter_c = 99
 abbrev pub letter_i : ℕ
 letter_i = 105
 
+abbrev pub letter_k : ℕ
+letter_k = 107
+
+abbrev pub letter_l : ℕ
+letter_l = 108
+
+abbrev pub letter_m : ℕ
+letter_m = 109
+
 abbrev pub letter_p : ℕ
 letter_p = 112
 
+abbrev pub letter_r : ℕ
+letter_r = 114
+
 abbrev pub letter_u : ℕ
 letter_u = 117
+
+abbrev pub letter_w : ℕ
+letter_w = 119
 
 abbrev pub letter_x : ℕ
 letter_x = 120
@@ -108,6 +126,9 @@ open_brace = 123
 
 abbrev pub close_brace : ℕ
 close_brace = 125
+
+abbrev pub tilde : ℕ
+tilde = 126
 
 abbrev pub delete : ℕ
 delete = 127

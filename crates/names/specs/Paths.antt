@@ -49,11 +49,11 @@ path_fault bytes =
 
 -- what rules judge: a list of bytes that begins with a slash, none of them 0
 abbrev pub IsName : List ℕ → Type 0
-IsName bytes = (slice_index bytes 0 ≡ 47) × All (λ b. (0 < b) × (b < 256)) bytes
+IsName bytes = (slice_index bytes 0 ≡ ascii.slash) × All (λ b. (0 < b) × (b < 256)) bytes
 
 -- text between slashes
 abbrev pub IsPart : List ℕ → Type 0
-IsPart part = (0 < length part) × All (λ b. b ≢ 47) part
+IsPart part = (0 < length part) × All (λ b. b ≢ ascii.slash) part
 
 -- what a directory can have an entry of, or `.`
 pub record IsPathComponent (component : List ℕ) : Type 0 where

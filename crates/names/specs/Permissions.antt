@@ -2,18 +2,19 @@
 use Rattle.std.specs.Prelude.{ℕ, Bool, List, [], ◌∷◌, Option, Some, None, ◌==◌, ◌&&◌, ◌||◌, map, filter, find, IsTrue, length}
 use Rattle.std.specs.Prelude.{if◌then◌else◌}
 use Rattle.std.specs.List.{list_all, list_any}
+use Rattle.names.specs.Ascii as ascii
 use Rattle.names.specs.declared.permissions.Permission.{Permission}
 use Rattle.names.specs.declared.permissions.Permission.TheVariants.{Read, Write, Link, Lock, Map, Append}
 use Rattle.names.specs.declared.permissions.Perms.{Perms}
 
--- r, w, l, k, m and a
+-- the letter that stands for a permission in a rule
 abbrev pub letter : Permission → ℕ
-letter Read = 114
-letter Write = 119
-letter Link = 108
-letter Lock = 107
-letter Map = 109
-letter Append = 97
+letter Read = ascii.letter_r
+letter Write = ascii.letter_w
+letter Link = ascii.letter_l
+letter Lock = ascii.letter_k
+letter Map = ascii.letter_m
+letter Append = ascii.letter_a
 
 -- every permission, in the order in which a set is printed
 abbrev pub all_permissions : List Permission

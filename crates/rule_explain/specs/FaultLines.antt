@@ -9,7 +9,7 @@ use Rattle.rule_explain.specs.Places.{front_of_line, rest_of_line, place_at}
 
 -- space to ~
 abbrev pub is_printable : ℕ → Bool
-is_printable b = nat_le 32 b && nat_le b 126
+is_printable b = nat_le ascii.space b && nat_le b ascii.tilde
 
 -- A byte as it is shown. Only printable ASCII is, so that a text can't drive the terminal: a tab is one space, and each other byte
 -- is `?`. So a byte takes one column (our choice).
@@ -27,7 +27,7 @@ shown_line text offset = map shown (front_of_line text offset ++ rest_of_line te
 
 -- a caret in the column of a place
 abbrev pub caret_line : List ℕ → ℕ → List ℕ
-caret_line text offset = replicate (length (front_of_line text offset)) 32 ++ codes "^"
+caret_line text offset = replicate (length (front_of_line text offset)) ascii.space ++ codes "^"
 
 -- the three lines, without the end of the last one; running out of memory, which is no fault of the text, is shown at its start
 abbrev pub lines_at : List ℕ → ℕ → ReadFault → List ℕ

@@ -22,9 +22,9 @@ members apart [] = Some []
 members apart (c ∷ []) = Some (single (byte_of c) ∷ [])
 members apart (c ∷ d ∷ []) = Some (single (byte_of c) ∷ single (byte_of d) ∷ [])
 members apart (c ∷ d ∷ e ∷ cells) =
-    if (apart && is_plain 45 c) || not (is_plain 45 d)
+    if (apart && is_plain ascii.dash c) || not (is_plain ascii.dash d)
     then option_map (λ others. single (byte_of c) ∷ others) (members false (d ∷ e ∷ cells))
-    else if is_plain 45 e && (length cells == 0) then Some (single (byte_of c) ∷ single (byte_of d) ∷ single (byte_of e) ∷ [])
+    else if is_plain ascii.dash e && (length cells == 0) then Some (single (byte_of c) ∷ single (byte_of d) ∷ single (byte_of e) ∷ [])
     else if nat_lt (byte_of e) (byte_of c) then None
     else option_map (λ others. range (byte_of c) (byte_of e) ∷ others) (members true cells)
 
@@ -45,7 +45,7 @@ IsClassCell quoted (escaped b) = is_escapable b ≡ true
 -- a class that is not negated doesn't begin with ^
 abbrev pub IsBegun : Bool → List Cell → Type 0
 IsBegun negated [] = ⊥
-IsBegun negated (c ∷ cells) = (negated || not (is_plain 94 c)) ≡ true
+IsBegun negated (c ∷ cells) = (negated || not (is_plain ascii.caret c)) ≡ true
 
 pub record IsClass (quoted : Bool) (c : WrittenClass) : Type 0 where
   pub cells : Each (IsClassCell quoted) c.cells
@@ -167,7 +167,7 @@ print_path p = in_quotes p.quoted (print_items p.items)
 -- a path begins with a slash, byte 47, by itself
 abbrev pub IsAbsolute : List WrittenItem → Type 0
 IsAbsolute [] = ⊥
-IsAbsolute (i ∷ items) = i ≡ cell (plain 47)
+IsAbsolute (i ∷ items) = i ≡ cell (plain ascii.slash)
 
 pub record IsPath (p : WrittenPath) : Type 0 where
   pub absolute : IsAbsolute p.items

@@ -117,7 +117,7 @@ IsFirst quoted (c ∷ cells) = begins_name quoted c ≡ true
 -- a name or an attachment that begins with a slash
 abbrev pub BeginsWithSlash : List Cell → Type 0
 BeginsWithSlash [] = ⊥
-BeginsWithSlash (c ∷ cells) = is_plain 47 c ≡ true
+BeginsWithSlash (c ∷ cells) = is_plain ascii.slash c ≡ true
 
 -- at least one byte, and at most `longest_profile_name`
 pub record IsWrittenName (n : WrittenName) : Type 0 where

@@ -10,7 +10,7 @@ is_plain b = not (is_ascii_control b) && not (b == ascii.backslash)
 
 -- a backslash, and the byte's number in three octal digits, as proc_pid_mounts(5) has it
 abbrev pub octal : ℕ → List ℕ
-octal b = ascii.backslash ∷ (48 + b / 64) ∷ (48 + b / 8 % 8) ∷ (48 + b % 8) ∷ []
+octal b = ascii.backslash ∷ (ascii.digit_0 + b / 64) ∷ (ascii.digit_0 + b / 8 % 8) ∷ (ascii.digit_0 + b % 8) ∷ []
 
 abbrev pub shown_byte : ℕ → List ℕ
 shown_byte b = if is_plain b then b ∷ [] else octal b

@@ -91,7 +91,7 @@ kind_of_four word first second third =
 
 -- the first word begins with `#`
 abbrev pub is_comment : List ℕ → Bool
-is_comment word = slice_index word 0 == 35
+is_comment word = slice_index word 0 == ascii.number_sign
 
 abbrev pub kind_of_words : List (List ℕ) → LineKind
 kind_of_words (a ∷ []) = kind_of_one a

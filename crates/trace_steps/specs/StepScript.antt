@@ -5,6 +5,7 @@ use Rattle.std.specs.Prelude.{if◌then◌else◌}
 use Rattle.std.specs.Char.{is_ascii_digit}
 use Rattle.std.specs.List.{list_all}
 use Rattle.std.specs.Str.Parse.{digits_value}
+use Rattle.names.specs.Ascii as ascii
 use Rattle.names.specs.declared.permissions.Perms.{Perms}
 use Rattle.names.specs.Permissions.{perms_of}
 use Rattle.event_machine.specs.Machine.{Call, Event}
@@ -45,7 +46,7 @@ whole_kind (judge_link profile old new) = no_command
 
 -- a session, as one digit from 1 to 9
 abbrev pub session_of : List ℕ → Option ℕ
-session_of (digit ∷ []) = if nat_lt 48 digit && nat_lt digit 58 then Some (digit - 48) else None
+session_of (digit ∷ []) = if nat_lt ascii.digit_0 digit && nat_lt digit (ascii.digit_0 + 10) then Some (digit - ascii.digit_0) else None
 session_of _ = None
 
 -- a number, in decimal digits alone, that fits 64 bits

@@ -3,13 +3,14 @@
 use Rattle.std.specs.Prelude.{ℕ, ◌-◌, ◌==◌, ◌||◌, Bool, List, [], ◌∷◌, ◌++◌, length, take, drop, codes, Option, Some, None, option_map}
 use Rattle.std.specs.Prelude.{bytes_eq, if◌then◌else◌}
 use Rattle.std.specs.List.{before_first, position_or_len, prefix_len, suffix_len}
+use Rattle.names.specs.Ascii as ascii
 use Rattle.trace_script.specs.Script.{Command, publish, LineKind, LineOf, ignored, opens_policy, command, no_command, is_blank, is_comment}
 use Rattle.trace_script.specs.Script.{kind_of_words, Grammar, ScriptOf, outside, script_by, lines_of}
 
 -- ---- words in quotes
 
 abbrev pub quote : ℕ
-quote = 34
+quote = ascii.quote
 
 -- where in a line reading is
 pub data Place : Type 0 where

@@ -17,7 +17,7 @@ IsNameByte b = (0 < b) × (b < 256)
 
 -- bytes on one side of `a`, so that their places follow one another
 abbrev pub IsStretch : ℕ → ℕ → Type 0
-IsStretch first last = (first ≤ last) × (last < 256) × ((97 ≤ first) ⊎ (last < 97))
+IsStretch first last = (first ≤ last) × (last < 256) × ((ascii.letter_a ≤ first) ⊎ (last < ascii.letter_a))
 
 -- the state after some bytes
 abbrev pub led : {K : Type 0} → (K → ℕ → K) → K → List ℕ → K
