@@ -103,7 +103,7 @@ impl<'a> Seen<'a> {
         }
     }
 
-    /// Counts a text of so many bytes, and returns whether it isn't too much together.
+    /// Counts a text of this many bytes, and returns whether it isn't too much together.
     fn count_text(&mut self, bytes: usize) -> bool
         requires { self.old.bytes ≤ most_together }
         ensures count { CountsText result bytes self.old.bytes self.new.bytes }

@@ -13,7 +13,7 @@ use std::alloc::Global;
 use std::process::Abort;
 use std::sync::{Arc, Wait};
 use std::test::Fail;
-use storm_parts::{compiled, first_keeper, judged, session};
+use storm_parts::{compiled, first_keeper, session};
 use test_parts::perms;
 
 /// The file `/d/f` has this node.
@@ -81,8 +81,8 @@ pub(crate) fn first_session<R: Wait>(
 }
 
 /// The verdict on a file in the tree of a version, by the first profile that was published.
-pub(crate) fn judged_first(verdict: Verdict, node: u64, tree_version: u64) -> Answer {
-    judged(verdict, node, tree_version, 1)
+pub(crate) fn judged(verdict: Verdict, node: u64, tree_version: u64) -> Answer {
+    storm_parts::judged(verdict, node, tree_version, 1)
 }
 
 /// An open, and its expected outcome.
@@ -112,12 +112,7 @@ pub(crate) fn unjudged<'a>(path: &'a [u8], answer: Answer) -> Row<'a> {
 
 /// An open of a file that the first profile allows, along a link.
 pub(crate) fn allowed<'a>() -> Row<'a> {
-    opened(
-        b"/l/f",
-        b"r",
-        judged_first(Verdict::Allowed, FILE, TREE),
-        b"/d/f",
-    )
+    opened(b"/l/f", b"r", judged(Verdict::Allowed, FILE, TREE), b"/d/f")
 }
 
 /// Each session opens that file.

@@ -3,8 +3,8 @@ ghost use Rattle.std.specs.Prelude.{◌≡◌, ◌≤◌, ◌+◌};
 ghost use mathlib.Core.List.{IsPrefix};
 
 use crate::fixtures::{
-    FILE, Row, TREE, allowed, expect_beside, expect_with, first_session, judged_first, opened,
-    publish, unjudged,
+    FILE, Row, TREE, allowed, expect_beside, expect_with, first_session, judged, opened, publish,
+    unjudged,
 };
 use dentry_cache::Keeper;
 use directory_tree::Change;
@@ -67,7 +67,7 @@ fn keep_and_find(rt: &impl Abort, session: &mut Session, keeper: &mut Keeper) ->
     let denied = opened(
         b"/d/k",
         b"w",
-        judged_first(Verdict::Denied { rule: 2 }, FILE + 1, TREE),
+        judged(Verdict::Denied { rule: 2 }, FILE + 1, TREE),
         b"/d/k",
     );
     expect_kept(rt, session, &[allowed(), denied], 0)?;
@@ -80,16 +80,11 @@ fn ask_otherwise(rt: &impl Abort, session: &mut Session) -> Result<(), Fail>
     ensures of { session.new.walk.table ≡ session.old.walk.table }
     ensures learned { session.new.reading.learned ≡ session.old.reading.learned }
 {
-    let by_name = opened(
-        b"/d/f",
-        b"r",
-        judged_first(Verdict::Allowed, FILE, TREE),
-        b"/d/f",
-    );
+    let by_name = opened(b"/d/f", b"r", judged(Verdict::Allowed, FILE, TREE), b"/d/f");
     let missing = Verdict::NoRule {
         missing: perms(b"k")?,
     };
-    let to_lock = opened(b"/l/f", b"rk", judged_first(missing, FILE, TREE), b"/d/f");
+    let to_lock = opened(b"/l/f", b"rk", judged(missing, FILE, TREE), b"/d/f");
     expect_kept(rt, session, &[by_name, to_lock], 0)?;
     select(session, b"q")?;
     let no_profile = unjudged(b"/l/f", Answer::NoProfile { policy_version: 1 });
@@ -124,7 +119,7 @@ fn open_in_a_new_tree(
     let there = opened(
         b"/e/f",
         b"r",
-        judged_first(Verdict::Allowed, FILE, TREE + 1),
+        judged(Verdict::Allowed, FILE, TREE + 1),
         b"/e/f",
     );
     expect_kept(rt, session, &[gone, there], 0)?;

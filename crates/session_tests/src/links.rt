@@ -2,7 +2,7 @@
 ghost use Rattle.std.specs.Prelude.{◌≡◌};
 
 use crate::fixtures::{
-    FILE, TREE, expect_beside, expect_with, first_session, judged_first, opened, unjudged,
+    FILE, TREE, expect_beside, expect_with, first_session, judged, opened, unjudged,
 };
 use dentry_cache::Keeper;
 use names::{Errno, Perms};
@@ -112,12 +112,7 @@ fn expect_unmade(
         assert!(rt; session.name() == unmade.name, "{:?}", unmade.new);
         assert_eq!(rt; keeper.version(), TREE);
         let untouched = [
-            opened(
-                b"/d/f",
-                b"r",
-                judged_first(Verdict::Allowed, FILE, TREE),
-                b"/d/f",
-            ),
+            opened(b"/d/f", b"r", judged(Verdict::Allowed, FILE, TREE), b"/d/f"),
             unjudged(b"/m", failed(Errno::ENOENT, TREE)),
             unjudged(b"/n", failed(Errno::ENOENT, TREE)),
             unjudged(b"/o", failed(Errno::ENOENT, TREE)),
@@ -142,13 +137,8 @@ fn expect_made(rt: &impl Abort, session: &mut Session, keeper: &mut Keeper) -> R
     assert!(rt; session.name() == b"/m".as_slice());
     assert_eq!(rt; keeper.version(), 6);
     let both = [
-        opened(b"/m", b"r", judged_first(Verdict::Allowed, FILE, 6), b"/m"),
-        opened(
-            b"/d/f",
-            b"r",
-            judged_first(Verdict::Allowed, FILE, 6),
-            b"/d/f",
-        ),
+        opened(b"/m", b"r", judged(Verdict::Allowed, FILE, 6), b"/m"),
+        opened(b"/d/f", b"r", judged(Verdict::Allowed, FILE, 6), b"/d/f"),
     ];
     expect_beside(rt, session, &both)?;
     expect_with(rt, session, keeper, &both)

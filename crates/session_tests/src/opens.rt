@@ -2,8 +2,8 @@
 ghost use Rattle.std.specs.Prelude.{◌≡◌};
 
 use crate::fixtures::{
-    FILE, Row, TREE, allowed, expect_beside, expect_with, first_session, judged_first, open_each,
-    opened, publish, publish_first, unjudged,
+    FILE, Row, TREE, allowed, expect_beside, expect_with, first_session, judged, open_each, opened,
+    publish, publish_first, unjudged,
 };
 use dentry_cache::Keeper;
 use directory_tree::Change;
@@ -50,12 +50,7 @@ fn quiet_open(rt: HostRuntime) -> Result<(), Fail> {
 fn expect_moved(rt: &impl Abort, session: &mut Session, keeper: &mut Keeper) -> Result<(), Fail>
     requires { session.old.walk.table ≡ keeper.old.table }
 {
-    let moved = opened(
-        b"/e/f",
-        b"r",
-        judged_first(Verdict::Allowed, FILE, 6),
-        b"/e/f",
-    );
+    let moved = opened(b"/e/f", b"r", judged(Verdict::Allowed, FILE, 6), b"/e/f");
     let gone = unjudged(b"/d/f", failed(Errno::ENOENT, 6));
     expect_with(rt, session, keeper, &[moved])?;
     expect_beside(rt, session, &[moved, gone])
@@ -95,34 +90,29 @@ fn met_open(rt: HostRuntime) -> Result<(), Fail> {
 // Opens by the profile `p`, with each verdict.
 fn verdicts<'a>(read: Perms, write: Perms) -> [Row<'a>; 5] {
     [
-        opened(
-            b"/d/f",
-            b"r",
-            judged_first(Verdict::Allowed, FILE, TREE),
-            b"/d/f",
-        ),
+        opened(b"/d/f", b"r", judged(Verdict::Allowed, FILE, TREE), b"/d/f"),
         opened(
             b"/d/f",
             b"rw",
-            judged_first(Verdict::NoRule { missing: write }, FILE, TREE),
+            judged(Verdict::NoRule { missing: write }, FILE, TREE),
             b"/d/f",
         ),
         opened(
             b"/l/k",
             b"rw",
-            judged_first(Verdict::Denied { rule: 2 }, 4, TREE),
+            judged(Verdict::Denied { rule: 2 }, 4, TREE),
             b"/d/k",
         ),
         opened(
             b"/",
             b"r",
-            judged_first(Verdict::NoRule { missing: read }, 1, TREE),
+            judged(Verdict::NoRule { missing: read }, 1, TREE),
             b"/",
         ),
         opened(
             b"/d/../d/./f",
             b"r",
-            judged_first(Verdict::Allowed, FILE, TREE),
+            judged(Verdict::Allowed, FILE, TREE),
             b"/d/f",
         ),
     ]

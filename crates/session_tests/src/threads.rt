@@ -1,7 +1,7 @@
 //! A session concurrent with a keeper that is at work in another thread.
 ghost use Rattle.std.specs.Prelude.{◌≡◌};
 
-use crate::fixtures::{FILE, expect_with, judged_first, opened, publish};
+use crate::fixtures::{FILE, expect_with, judged, opened, publish};
 use dentry_cache::Keeper;
 use directory_tree::Change;
 use matcher::PolicyChange;
@@ -121,7 +121,7 @@ fn run<R: Abort + Threads + Wait + Sync>(
     assert!(rt; seen, "the last version isn't seen");
     justify_all(rt, alloc, &answers, &changes, &policy)?;
     let mut session = session;
-    let last = judged_first(Verdict::Allowed, FILE, LAST);
+    let last = judged(Verdict::Allowed, FILE, LAST);
     expect_with(
         rt,
         &mut session,
