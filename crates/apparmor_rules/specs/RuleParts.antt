@@ -7,7 +7,7 @@ use Rattle.apparmor_text.specs.declared.part.PartKind.TheVariants as kinds
 use Rattle.apparmor_text.specs.Parts.{PartValue}
 use Rattle.apparmor_rules.specs.declared.what.What.{What}
 use Rattle.apparmor_rules.specs.declared.what.What.TheVariants as whats
-use Rattle.apparmor_variables.specs.Slashes.{one_slash}
+use Rattle.apparmor_pieces.specs.Slashes.{one_slash}
 use Rattle.apparmor_rules.specs.declared.effect.Extent.TheVariants.{Exact}
 use Rattle.apparmor_rules.specs.declared.effect.Effect.{Effect}
 use Rattle.apparmor_rules.specs.declared.shape.RuleShape.{RuleShape}

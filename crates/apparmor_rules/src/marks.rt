@@ -5,8 +5,8 @@ ghost use Rattle.apparmor_rules.specs.RuleParts.{if_so, part_whats, part_effect,
 
 use crate::words::{RuleWords, is_link_rule, may_bind_link};
 use crate::{Effect, Extent, RuleShape, Subject, What};
+use apparmor_pieces::one_slash;
 use apparmor_text::{Part, PartKind};
-use apparmor_variables::one_slash;
 use apparmor_words::Letters;
 use names::NoMemory;
 use std::alloc::Global;

@@ -2,7 +2,7 @@
 use Rattle.std.proofs.Common.{◌≡◌, ◌++◌, length, length-append, ap, ◌∙◌, append_assoc, arith}
 use Rattle.apparmor_variables.specs.declared.refusal.Refusal.{Refusal}
 use Rattle.apparmor_variables.specs.declared.refusal.Refusal.TheVariants.{Nothing, NoMemory}
-use Rattle.apparmor_variables.specs.Pieces.{Text}
+use Rattle.apparmor_pieces.specs.Pieces.{Text}
 use Rattle.apparmor_variables.specs.inner.AddedBytes.{Refused}
 
 -- where a part exceeds the limit, the whole does

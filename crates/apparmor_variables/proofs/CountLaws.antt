@@ -1,6 +1,6 @@
 -- Variables count one number together.
 use Rattle.std.proofs.Common.{◌≡◌, ℕ, ◌+◌, List, [], ◌∷◌, refl, sym, ap, ap₂, ◌∙◌, inl, inr, ⊎_elim}
-use Rattle.apparmor_variables.specs.Pieces.{Text}
+use Rattle.apparmor_pieces.specs.Pieces.{Text}
 use Rattle.apparmor_variables.specs.Variables.{Variable, byte_count}
 use Rattle.apparmor_variables.specs.Counts.{list_count, most_list_count, ListCounts, CountTogether}
 use Rattle.apparmor_variables.proofs.ListLaws.{one_list}

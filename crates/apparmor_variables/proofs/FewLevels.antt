@@ -2,7 +2,7 @@
 use Rattle.std.proofs.Common.{◌≡◌, ℕ, zero, suc, ◌+◌, ◌-◌, ◌≤◌, List, [], ◌∷◌, length, Option, Some, None, refl, sym, ap, ◌∙◌}
 use Rattle.std.proofs.Common.{⊎_elim, arith}
 use Rattle.std.specs.Prelude.{is_some, IsSome, Contains}
-use Rattle.apparmor_variables.specs.Pieces.{Text, pieces}
+use Rattle.apparmor_pieces.specs.Pieces.{Text, pieces}
 use Rattle.apparmor_variables.specs.PathTexts.{path_text}
 use Rattle.apparmor_variables.specs.Variables.{Variable, HasList, values_of, list_at, list_of_values, names_needed}
 use Rattle.apparmor_variables.specs.inner.Known.{place_of}

@@ -6,7 +6,7 @@ use Rattle.std.specs.List.{list_any}
 use Rattle.std.specs.Option.{option_map_or}
 use Rattle.std.proofs.lemmas.Bool.{cases_eq}
 use Rattle.std.proofs.lemmas.List.Elements.{Contains-append_left, Contains-append_right, Contains-append_cases}
-use Rattle.apparmor_variables.specs.Pieces.{Text}
+use Rattle.apparmor_pieces.specs.Pieces.{Text}
 use Rattle.apparmor_variables.specs.Variables.{Variable, values_of, list_at, list_of_values, names_needed, with_first_value}
 use Rattle.apparmor_variables.specs.inner.Known.{place_of, list_made, known_in, is_marked, free_at, free_in, is_named_marked}
 use Rattle.apparmor_variables.specs.inner.Way.{Lists, KnowsAll, AreKnown, IsFree, variable_at, needed_at}

@@ -4,7 +4,7 @@ use Rattle.std.proofs.Common.{Some, None, refl, sym, ap, ◌∙◌, subst, arith
 use Rattle.std.specs.Prelude.{slice_get, is_some, IsSome, bytes_eq, option_and_then, find, unwrap_or}
 use Rattle.std.specs.Option.{option_map}
 use Rattle.std.specs.Cmp.Lexicographic.{bytes_decides}
-use Rattle.apparmor_variables.specs.Pieces.{Text, Piece, byte, escaped, use_of, pieces, names_in, used_names}
+use Rattle.apparmor_pieces.specs.Pieces.{Text, Piece, byte, escaped, use_of, pieces, names_in, used_names}
 use Rattle.apparmor_variables.specs.Variables.{Variable, Known, values_of, fitting, each_with, piece_texts, texts_from, value_texts}
 use Rattle.apparmor_variables.specs.Variables.{list_from, list_of_values, list_at, names_needed}
 use Rattle.apparmor_variables.specs.Problems.{AreListed}

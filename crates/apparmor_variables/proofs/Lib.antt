@@ -15,5 +15,5 @@ pub mod FewLevels
 pub mod PathLaws
 pub mod CountLaws
 mod CountSteps
-mod SlashLaws
+mod FirstSlashes
 mod WholeLaws

@@ -1,6 +1,6 @@
 -- A variable has one list.
 use Rattle.std.proofs.Common.{◌≡◌, ◌+◌, List, Some, arith}
-use Rattle.apparmor_variables.specs.Pieces.{Text}
+use Rattle.apparmor_pieces.specs.Pieces.{Text}
 use Rattle.apparmor_variables.specs.Variables.{Variable, HasList, list_at}
 use Rattle.apparmor_variables.proofs.KnownLists.{levels}
 

@@ -2,7 +2,7 @@
 use Rattle.std.proofs.Common.{◌≡◌, ℕ, ◌+◌, List, [], ◌∷◌, ◌++◌, length, Some, refl, sym, ap, ◌∙◌, subst, ◌⊎◌, inl, inr, ⊎_elim, arith}
 use Rattle.std.specs.Prelude.{is_some}
 use Rattle.std.proofs.lemmas.Bool.{cases_lt}
-use Rattle.apparmor_variables.specs.Pieces.{Text, Piece, byte, escaped, use_of, pieces, names_in, used_names}
+use Rattle.apparmor_pieces.specs.Pieces.{Text, Piece, byte, escaped, use_of, pieces, names_in, used_names}
 use Rattle.apparmor_variables.specs.Variables.{Variable, Known, list_at, most_bytes}
 use Rattle.apparmor_variables.specs.Problems.{Problem, too_long, AreListed, HasProblem}
 use Rattle.apparmor_variables.specs.PathTexts.{text_of, path_text, IsSubstituted, PathProblem, OfUse, TextTooLong}

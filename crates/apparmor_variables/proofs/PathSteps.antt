@@ -7,7 +7,7 @@ use Rattle.apparmor_variables.specs.declared.fault.ExpandFault.{ExpandFault}
 use Rattle.apparmor_variables.specs.declared.fault.ExpandFault.TheVariants as faults
 use Rattle.apparmor_variables.specs.declared.refusal.Refusal.{Refusal}
 use Rattle.apparmor_variables.specs.declared.refusal.Refusal.TheVariants as refusals
-use Rattle.apparmor_variables.specs.Pieces.{Text, Piece, byte, escaped, use_of, pieces, names_in, used_names}
+use Rattle.apparmor_pieces.specs.Pieces.{Text, Piece, byte, escaped, use_of, pieces, names_in, used_names}
 use Rattle.apparmor_variables.specs.Variables.{Variable, Known, piece_texts, list_at, most_bytes}
 use Rattle.apparmor_variables.specs.Problems.{Problem}
 use Rattle.apparmor_variables.specs.PathTexts.{in_place, begins_with_slash, text_of, path_text, PathProblem, TextTooLong}

@@ -5,7 +5,7 @@ use Rattle.std.specs.Prelude.{bytes_eq, is_some, not}
 use Rattle.std.specs.Option.{option_copied}
 use Rattle.std.specs.Cmp.Lexicographic.{bytes_decides}
 use Rattle.std.proofs.lemmas.List.{take_more, length-take-le}
-use Rattle.apparmor_variables.specs.Pieces.{Text}
+use Rattle.apparmor_pieces.specs.Pieces.{Text}
 use Rattle.apparmor_variables.specs.Variables.{Variable}
 use Rattle.apparmor_variables.specs.inner.Known.{place_of}
 use Rattle.apparmor_variables.proofs.Places.{first_of_two, position_from-more}

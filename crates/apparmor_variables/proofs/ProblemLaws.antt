@@ -7,7 +7,7 @@ use Rattle.std.specs.List.{IsDistinct, AllByRecursion, list_any}
 use Rattle.std.specs.Cmp.Lexicographic.{bytes_decides}
 use Rattle.std.proofs.lemmas.Bool.{ne_eqb, eqb-true}
 use Rattle.std.proofs.lemmas.Map.Steps.{length-le_from_distinct_below}
-use Rattle.apparmor_variables.specs.Pieces.{Text, Piece, byte, escaped, use_of, pieces, names_in, used_names}
+use Rattle.apparmor_pieces.specs.Pieces.{Text, Piece, byte, escaped, use_of, pieces, names_in, used_names}
 use Rattle.apparmor_variables.specs.Variables.{Variable, Known, values_of, list_at, list_of_values, names_needed, fitting, each_with}
 use Rattle.apparmor_variables.specs.Variables.{texts_from, value_texts, list_from}
 use Rattle.apparmor_variables.specs.Problems.{Problem, undefined, cycle, too_long, IsListed, AreListed, HasProblem, Undeclared, Met}

@@ -6,7 +6,7 @@ use Rattle.std.proofs.lemmas.Bool.{leb-true}
 use Rattle.std.proofs.lemmas.List.Sums.{sum_by-append}
 use Rattle.std.proofs.lemmas.Option.{unwrap_or-slice_get}
 use Rattle.std.proofs.Math.Nat.{mul-le-mul_left}
-use Rattle.apparmor_variables.specs.Pieces.{Text, Piece, byte, escaped, use_of, pieces}
+use Rattle.apparmor_pieces.specs.Pieces.{Text, Piece, byte, escaped, use_of, pieces}
 use Rattle.apparmor_variables.specs.Variables.{Variable, Known, values_of, byte_count, fitting, most_texts, most_bytes, each_with}
 use Rattle.apparmor_variables.specs.Variables.{piece_texts, texts_from, value_texts, list_from, list_of_values, list_at}
 use Rattle.apparmor_variables.specs.WholeLists.{all_texts_from, all_from, whole_list, whole_list_at}

@@ -1,6 +1,6 @@
 -- What the variables of a text count towards the limit on all of its texts together (our choice; AppArmor has no bound).
 use Rattle.std.specs.Prelude.{◌≡◌, ◌<◌, ◌≤◌, ◌⊎◌, ℕ, ◌+◌, ◌*◌, List, [], ◌∷◌, length, drop, Option, Some, None}
-use Rattle.apparmor_variables.specs.Pieces.{Text}
+use Rattle.apparmor_pieces.specs.Pieces.{Text}
 use Rattle.apparmor_variables.specs.Variables.{Variable, HasList, byte_count, most_bytes, most_texts}
 use Rattle.apparmor_variables.specs.Problems.{Problem, HasProblem}
 

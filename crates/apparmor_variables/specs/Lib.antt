@@ -1,10 +1,7 @@
-pub mod Pieces
 pub mod Variables
 pub mod WholeLists
 pub mod Problems
 pub mod PathTexts
-pub mod Slashes
 pub mod Counts
 pub mod Faults
 pub mod inner
-pub mod laws

@@ -5,7 +5,7 @@ use Rattle.std.specs.Prelude.{option_and_then}
 use Rattle.std.specs.List.{flat_map}
 use Rattle.names.specs.Ascii as ascii
 use Rattle.names.specs.Paths.{is_slash, ends_with_slash}
-use Rattle.apparmor_variables.specs.Pieces.{Text, Piece, byte, escaped, use_of, pieces, used_names}
+use Rattle.apparmor_pieces.specs.Pieces.{Text, Piece, byte, escaped, use_of, pieces, used_names}
 use Rattle.apparmor_variables.specs.Variables.{Variable, Known, piece_texts, list_at, most_bytes}
 use Rattle.apparmor_variables.specs.Problems.{Problem, HasProblem, AreListed, too_long}
 

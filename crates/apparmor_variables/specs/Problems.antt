@@ -1,6 +1,6 @@
 -- Why a variable has no list.
 use Rattle.std.specs.Prelude.{◌≡◌, ℕ, List, [], ◌∷◌, ◌++◌, Some, None, IsSome, Contains}
-use Rattle.apparmor_variables.specs.Pieces.{Text}
+use Rattle.apparmor_pieces.specs.Pieces.{Text}
 use Rattle.apparmor_variables.specs.Variables.{Variable, HasList, values_of, list_at, list_of_values, names_needed}
 
 pub data Problem : Type 0 where

@@ -3,7 +3,7 @@ use Rattle.std.specs.Prelude.{◌≡◌, ℕ, zero, suc, ◌&&◌, if◌then◌e
 use Rattle.std.specs.Prelude.{Option, Some, None, option_and_then}
 use Rattle.std.specs.List.{flat_map}
 use Rattle.std.specs.Option.{option_map}
-use Rattle.apparmor_variables.specs.Pieces.{Text, Piece, byte, escaped, use_of, written, pieces, used_names}
+use Rattle.apparmor_pieces.specs.Pieces.{Text, Piece, byte, escaped, use_of, written, pieces, used_names}
 
 -- A declared variable: its name and its values, those of `=` and `+=` together.
 pub record Variable : Type 0 where

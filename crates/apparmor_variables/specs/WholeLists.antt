@@ -1,6 +1,6 @@
 -- Lists of texts whose limits apply to whole lists only (in `Variables.antt` they also apply to all that a list is made of).
 use Rattle.std.specs.Prelude.{ℕ, zero, suc, List, [], ◌∷◌, ◌++◌, Option, Some, None, option_and_then}
-use Rattle.apparmor_variables.specs.Pieces.{Text, Piece, pieces}
+use Rattle.apparmor_pieces.specs.Pieces.{Text, Piece, pieces}
 use Rattle.apparmor_variables.specs.Variables.{Variable, Known, values_of, fitting, each_with, piece_texts}
 
 -- the texts that extend these by each piece in turn, however many and however long

@@ -1,4 +1,3 @@
-pub mod CodePieces
 pub mod AddedBytes
 pub mod Gives
 pub mod Known

@@ -1,18 +1,11 @@
 //! Laws that show the definitions of `specs/` to be sane. The functions do nothing; each exists for its contract.
 ghost use Rattle.std.specs.Prelude.{◌≡◌, ◌⊎◌, ◌<◌, ℕ, List, [], All, length, Some};
-ghost use Rattle.std.specs.List.{flat_map};
-ghost use Rattle.apparmor_variables.specs.Pieces.{Text, pieces, written};
+ghost use Rattle.apparmor_pieces.specs.Pieces.{Text};
 ghost use Rattle.apparmor_variables.specs.Counts.{CountTogether};
 ghost use Rattle.apparmor_variables.specs.PathTexts.{path_text, IsSubstituted, PathProblem};
 ghost use Rattle.apparmor_variables.specs.Problems.{Problem, HasProblem, IsListed};
-ghost use Rattle.apparmor_variables.specs.Slashes.{one_slash};
 ghost use Rattle.apparmor_variables.specs.Variables.{Variable, HasList, list_at};
 ghost use Rattle.apparmor_variables.specs.WholeLists.{whole_list_at};
-
-/// The pieces of a text, written out, are the text.
-pub fn texts_are_their_pieces()
-    ensures { (text : Text) → flat_map written (pieces text) ≡ text }
-{}
 
 /// A variable has one list, or it has one problem, and not both.
 pub fn one_list_or_one_problem()
@@ -51,11 +44,6 @@ pub fn one_text_or_one_problem()
         PathProblem variables path other → one ≡ other }
     ensures either { (variables : List Variable) (path text : Text) (problem : Problem) → IsSubstituted variables path text →
         ¬ PathProblem variables path problem }
-{}
-
-/// Where each run of slashes is already a single one, nothing changes.
-pub fn one_slash_stays()
-    ensures { (text : Text) → one_slash (one_slash text) ≡ one_slash text }
 {}
 
 /// Where each variable has a value, it makes no difference whether limits apply to all that a list is made of, or to whole

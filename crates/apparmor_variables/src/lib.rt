@@ -13,20 +13,17 @@ mod laws;
 mod lists;
 mod made_lists;
 mod one_list;
-mod pieces;
 mod placement;
 mod refusal;
 mod sink;
-mod slashes;
 mod texts;
 mod variables;
 
 pub use fault::ExpandFault;
 pub use laws::{
     limits_are_of_whole_lists, lists_need_few_levels, one_count, one_list_or_one_problem,
-    one_slash_stays, one_text_or_one_problem, texts_are_their_pieces,
+    one_text_or_one_problem,
 };
 pub use lists::Lists;
-pub use slashes::one_slash;
 pub use texts::{MOST_BYTES, MOST_TEXTS};
 pub use variables::Variable;

@@ -1,7 +1,7 @@
 //! Path texts with the variables put in place.
 ghost use Rattle.std.specs.Prelude.{◌≡◌, ℕ, List, [], length, IfOk, IfErr, OnOk, OnErr};
 ghost use Rattle.apparmor_variables.specs.Counts.{AtMost, OthersCount};
-ghost use Rattle.apparmor_variables.specs.Pieces.{used_names};
+ghost use Rattle.apparmor_pieces.specs.Pieces.{used_names};
 ghost use Rattle.apparmor_variables.specs.Variables.{with_first_value};
 ghost use Rattle.apparmor_variables.specs.Faults.{Tells};
 ghost use Rattle.apparmor_variables.specs.PathTexts.{IsSubstituted, PathProblem};
@@ -12,10 +12,10 @@ use crate::counts::count_others;
 use crate::declared::Declared;
 use crate::fault::ExpandFault;
 use crate::made_lists::Made;
-use crate::pieces::{Piece, split_piece};
 use crate::placement::put_in_place;
 use crate::sink::{Measure, Sink};
 use crate::variables::Variable;
+use apparmor_pieces::{Piece, split_piece};
 use names::NoMemory;
 use std::alloc::{AllocError, Global};
 use std::marker::Model;

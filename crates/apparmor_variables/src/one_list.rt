@@ -2,14 +2,14 @@
 ghost use Rattle.std.specs.Prelude.{◌≡◌, ◌<◌, ◌∷◌, [], map, option_and_then, slice_get};
 ghost use Rattle.std.specs.Option.{option_map};
 ghost use Rattle.apparmor_variables.specs.Variables.{piece_texts, value_texts, list_of_values, fitting, each_with};
-ghost use Rattle.apparmor_variables.specs.inner.CodePieces.{piece_value};
+ghost use Rattle.apparmor_pieces.specs.CodePieces.{piece_value};
 ghost use Rattle.apparmor_variables.specs.inner.Gives.{Gives};
 ghost use Rattle.apparmor_variables.specs.inner.Known.{known_in};
 
 use crate::declared::Declared;
-use crate::pieces::{Piece, split_piece};
 use crate::refusal::Refusal;
 use crate::texts::Texts;
+use apparmor_pieces::{Piece, split_piece};
 use std::alloc::Global;
 
 /// Returns the list of the variable of that name, if it is made.

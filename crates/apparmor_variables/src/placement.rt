@@ -1,19 +1,19 @@
 //! A path's text with the variables in place, where their lists are made.
 ghost use Rattle.std.specs.Prelude.{◌≡◌, ℕ, List, [], IfErr, OnOk, Some};
-ghost use Rattle.apparmor_variables.specs.Pieces.{pieces};
+ghost use Rattle.apparmor_pieces.specs.Pieces.{pieces};
 ghost use Rattle.apparmor_variables.specs.PathTexts.{begins_with_slash, path_text};
 ghost use Rattle.apparmor_variables.specs.Variables.{piece_texts};
 ghost use Rattle.apparmor_variables.specs.inner.AddedBytes.{AddsPiece, Exceeds};
-ghost use Rattle.apparmor_variables.specs.inner.CodePieces.{piece_value};
+ghost use Rattle.apparmor_pieces.specs.CodePieces.{piece_value};
 ghost use Rattle.apparmor_variables.specs.inner.Known.{known_in};
 
 use crate::added_bytes::add_list;
 use crate::declared::Declared;
 use crate::one_list::known;
-use crate::pieces::{Piece, split_piece};
 use crate::refusal::Refusal;
 use crate::sink::Sink;
 use crate::texts::Texts;
+use apparmor_pieces::{Piece, split_piece};
 
 /// Adds the path's text, with each use replaced, to what is still empty.
 pub(crate) fn put_in_place<S: Sink>(

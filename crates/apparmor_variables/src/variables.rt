@@ -1,9 +1,9 @@
 //! Declared variables.
 ghost use Rattle.std.specs.Prelude.{◌≡◌, ◌++◌, ◌∷◌, [], ℕ, List, map, IfOk, OnOk};
-ghost use Rattle.apparmor_variables.specs.Pieces.{used_names};
+ghost use Rattle.apparmor_pieces.specs.Pieces.{used_names};
 ghost use Rattle.apparmor_variables.specs.Variables.{names_needed};
 
-use crate::pieces::{Piece, split_piece};
+use apparmor_pieces::{Piece, split_piece};
 use names::NoMemory;
 use std::alloc::{AllocError, Global};
 use std::marker::Model;

@@ -5,11 +5,11 @@ use Rattle.std.specs.List.{flat_map}
 use Rattle.std.proofs.lemmas.Bool.{or_parts, cases_eq, ne_eqb}
 use Rattle.std.proofs.lemmas.List.{append-nil}
 use Rattle.apparmor_variables.specs.PathTexts.{IsSubstituted, text_of}
-use Rattle.apparmor_variables.specs.Pieces.{Text, Piece, byte, escaped, use_of, written, closed_name, used_name, escape, first_piece}
-use Rattle.apparmor_variables.specs.Pieces.{pieces_behind, pieces}
+use Rattle.apparmor_pieces.specs.Pieces.{Text, Piece, byte, escaped, use_of, written, closed_name, used_name, escape, first_piece}
+use Rattle.apparmor_pieces.specs.Pieces.{pieces_behind, pieces}
 use Rattle.apparmor_variables.specs.Variables.{Variable, Known, list_at, most_bytes}
-use Rattle.apparmor_variables.specs.laws.PieceLaws.{written_again}
-use Rattle.apparmor_variables.specs.laws.PieceSteps.{at_first, plain_first}
+use Rattle.apparmor_pieces.specs.laws.PieceLaws.{written_again}
+use Rattle.apparmor_pieces.specs.laws.PieceSteps.{at_first, plain_first}
 use Rattle.import_profile.specs.OneWay.{opens_from, opens_variable}
 
 -- no piece is a use of a variable

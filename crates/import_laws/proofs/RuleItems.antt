@@ -24,7 +24,7 @@ use Rattle.import_profile.specs.OneWay.{is_read_one_way, opens_variable}
 use Rattle.import_profile.specs.Settled.{is_settled_text}
 use Rattle.import_profile.proofs.ImportLaws.{imported_as_it_is}
 use Rattle.apparmor_variables.specs.PathTexts.{IsSubstituted}
-use Rattle.apparmor_variables.specs.Slashes.{one_slash}
+use Rattle.apparmor_pieces.specs.Slashes.{one_slash}
 use Rattle.apparmor_variables.specs.Variables.{Variable, most_bytes}
 use Rattle.apparmor_rules.specs.declared.shape.RuleShape.{RuleShape}
 use Rattle.apparmor_rules.specs.declared.subject.AppliesTo.TheVariants.{Everybody}

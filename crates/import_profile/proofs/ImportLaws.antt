@@ -12,7 +12,7 @@ use Rattle.rule_globs.specs.laws.TokenLaws.{same_pattern}
 use Rattle.rule_reader.specs.PathText.{text_tokens}
 use Rattle.rule_profile.specs.Readable.{begins_with_slash, is_path}
 use Rattle.rule_writer.proofs.CanonItems.{path_parts}
-use Rattle.apparmor_variables.specs.Slashes.{one_slash}
+use Rattle.apparmor_pieces.specs.Slashes.{one_slash}
 use Rattle.rule_making.specs.Leads.{led}
 use Rattle.rule_making.specs.laws.SameNames.{led_same}
 use Rattle.import_profile.specs.Groups.{groups_choose, leads_from, led_from}

@@ -2,7 +2,7 @@
 -- AppArmor and this language may read it in two ways (our choice).
 use Rattle.std.specs.Prelude.{ℕ, List, [], Option, Some, None, ◌&&◌, if◌then◌else◌}
 use Rattle.std.specs.List.{list_all}
-use Rattle.apparmor_variables.specs.Slashes.{one_slash}
+use Rattle.apparmor_pieces.specs.Slashes.{one_slash}
 use Rattle.rule_globs.specs.Tokens.{Token}
 use Rattle.rule_reader.specs.PathText.{text_tokens}
 use Rattle.import_profile.specs.Groups.{groups_choose, led_from}

@@ -2,7 +2,7 @@
 use Rattle.std.specs.Prelude.{nat_le, length, ℕ, List, Bool, not, ◌&&◌, codes, nat_eq}
 use Rattle.std.specs.List.{flat_map, ends_with}
 use Rattle.std.specs.Str.{bytes_eq}
-use Rattle.apparmor_variables.specs.Slashes.{one_slash}
+use Rattle.apparmor_pieces.specs.Slashes.{one_slash}
 use Rattle.apparmor_variables.specs.Variables.{most_bytes}
 use Rattle.rule_globs.specs.Tokens.{Token}
 use Rattle.rule_writer.specs.Canonical.{token_text}

@@ -8,7 +8,7 @@ ghost use Rattle.rule_reader.specs.PathText.{text_tokens};
 ghost use Rattle.rule_profile.specs.Readable.{is_path};
 ghost use Rattle.rule_making.specs.Choices.{all_choose};
 ghost use Rattle.rule_making.specs.Leads.{led};
-ghost use Rattle.apparmor_variables.specs.Slashes.{one_slash};
+ghost use Rattle.apparmor_pieces.specs.Slashes.{one_slash};
 ghost use Rattle.import_profile.specs.Groups.{groups_choose, led_from};
 ghost use Rattle.import_profile.specs.ImportedPaths.{imported_paths};
 ghost use Rattle.import_profile.specs.Settled.{path_text, is_settled};

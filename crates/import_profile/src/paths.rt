@@ -5,7 +5,7 @@ ghost use Rattle.import_profile.specs.ImportedPaths.{settled_leads, leads_of_tex
 
 use crate::one_way::is_read_one_way;
 use crate::settled::{are_settled, groups_choose};
-use apparmor_variables::one_slash;
+use apparmor_pieces::one_slash;
 use names::NoMemory;
 use rule_globs::{Item, RulePath};
 use rule_making::led;

@@ -6,7 +6,8 @@ ghost use Rattle.import_profile.specs.Groups.{groups_choose};
 ghost use Rattle.import_profile.specs.Settled.{path_text, is_settled_text, is_settled};
 
 use crate::one_way::is_read_one_way;
-use apparmor_variables::{MOST_BYTES, one_slash};
+use apparmor_pieces::one_slash;
+use apparmor_variables::MOST_BYTES;
 use names::{NoMemory, Perms, RuleKind};
 use rule_globs::{Item, RulePath};
 use rule_making::groups_have_alternatives;

@@ -3,7 +3,7 @@ use Rattle.std.proofs.Common.{◌≡◌, ℕ, zero, suc, ◌+◌, ◌-◌, ◌<�
 use Rattle.std.proofs.Common.{Some, None, refl, sym, ap, ap₂, ◌∙◌, arith}
 use Rattle.std.specs.Prelude.{bytes_eq, is_some, ◌||◌}
 use Rattle.std.specs.List.{position_from, list_any}
-use Rattle.apparmor_variables.specs.Pieces.{Text}
+use Rattle.apparmor_pieces.specs.Pieces.{Text}
 use Rattle.apparmor_variables.specs.Variables.{Variable}
 use Rattle.apparmor_variables.specs.inner.Known.{place_of}
 use Rattle.apparmor_variables.proofs.Places.{find_place, first_of_two, position_from-more}

@@ -12,7 +12,7 @@ ghost use Rattle.path_session.specs.KeeperStates.{history_of};
 use crate::session::Session;
 use crate::unanswered::Unanswered;
 use dentry_cache::Keeper;
-use mediation::{Answer, LinkAnswer, answer_to_open, link_by};
+use mediation::{Answer, LinkAnswer, link_by};
 use names::{NoMemory, Perms};
 use profile_registry::{NoEntry, Publisher};
 
@@ -47,11 +47,7 @@ impl Session {
         self.name_length = 0;
         self.meet(keeper);
         let policy_version = self.known.read_published(publisher)?;
-        if self.known.published().is_none() {
-            return Ok(Answer::NoProfile { policy_version });
-        }
-        let tree_version = keeper.version();
-        let opened = self.known.open_here(
+        let (answer, name_length) = self.known.answer_here(
             keeper,
             path,
             ask,
@@ -59,7 +55,6 @@ impl Session {
             &mut self.scratch,
             &mut self.name,
         );
-        let (answer, name_length) = answer_to_open(opened, tree_version, policy_version);
         self.name_length = name_length;
         Ok(answer)
     }

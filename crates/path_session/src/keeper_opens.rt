@@ -1,11 +1,13 @@
 //! Opens when the keeper is held exclusively.
-ghost use Rattle.std.specs.Prelude.{◌≡◌, ◌≢◌, ◌⊎◌, ◌≤◌, [], IfOk, IfErr, IsOk, Err, length};
+ghost use Rattle.std.specs.Prelude.{◌≡◌, ◌≢◌, ◌⊎◌, ◌≤◌, IfOk, IfErr, IsOk, Err, length, take};
 ghost use Rattle.names.specs.Limits.{longest_path};
 ghost use mathlib.Core.List.{IsPrefix};
 ghost use Rattle.dentry_cache.specs.Walks.{met_at};
 ghost use Rattle.directory_tree.specs.Plain.{tree_of};
+ghost use Rattle.mediation.specs.Answers.{answered, name_opened};
 ghost use Rattle.mediation.specs.History.{open_answer};
 ghost use Rattle.mediation.specs.Opens.{reached};
+ghost use Rattle.justification.specs.Answers.{of_still};
 ghost use Rattle.justification.specs.Justified.{Justified};
 ghost use Rattle.justification.specs.Versions.{IsTreeAt};
 ghost use Rattle.path_session.specs.Sessions.{IsSameSession, HasReadPolicy, HasVersions, IsNameJudged, IsByPublished, CountsRefusals};
@@ -13,7 +15,7 @@ ghost use Rattle.path_session.specs.Sessions.{counted};
 ghost use Rattle.path_session.specs.AtHand.{IsAnswer, MayCountKept};
 ghost use Rattle.mediation.specs.Deeds.{policy_after};
 ghost use Rattle.path_session.specs.KeeperStates.{plain_of, history_of};
-ghost use Rattle.path_session.specs.inner.Knowledge.{IsCurrent, asked_by};
+ghost use Rattle.path_session.specs.inner.Knowledge.{IsCurrent, IsReadAt, asked_by};
 ghost use Rattle.kept_verdicts.specs.KeptFiles.{kept_of};
 ghost use Rattle.path_session.specs.inner.Right.{IsRightFor};
 ghost use Rattle.path_session.specs.inner.Walks.{end_of};
@@ -55,11 +57,7 @@ impl Session {
         let Ok(policy_version) = self.known.read_policy() else {
             return Answer::NoEntry;
         };
-        if self.known.published().is_none() {
-            return Answer::NoProfile { policy_version };
-        }
-        let tree_version = keeper.version();
-        let opened = self.known.open_here(
+        let (answer, name_length) = self.known.answer_here(
             keeper,
             path,
             ask,
@@ -67,7 +65,6 @@ impl Session {
             &mut self.scratch,
             &mut self.name,
         );
-        let (answer, name_length) = answer_to_open(opened, tree_version, policy_version);
         self.name_length = name_length;
         Answer::from(answer)
     }
@@ -86,6 +83,39 @@ impl Session {
 }
 
 impl Knowledge {
+    /// Answers an open by the current tree, which the walker has met, and by what was read last, which is from this version of the
+    /// policy. Returns the length of the name that was judged, too: the name is at the front of `room`, and 0 is no name.
+    pub(crate) fn answer_here(
+        &mut self,
+        keeper: &mut Keeper,
+        path: &[u8],
+        ask: Perms,
+        policy_version: u64,
+        scratch: &mut Scratch,
+        room: &mut [u8; NAME_ROOM],
+    ) -> (mediation::Answer, usize)
+        requires read { IsReadAt self.old policy_version }
+        requires met { self.old.walk.view.seen ≡ keeper.old.history }
+        ensures same { (self.new.walk ≡ self.old.walk) × (self.new.reading ≡ self.old.reading) × (self.new.profile ≡ self.old.profile)
+            × (keeper.new ≡ keeper.old) }
+        ensures kept { MayCountKept self.old.kept_answers self.new.kept_answers (of_still result.0) }
+        ensures fits { result.1 ≤ longest_path }
+        ensures answer { answered (take result.1 room.new) result.0
+            ≡ open_answer (history_of keeper.old self.old.reading.seen) self.old.profile path.now ask }
+        ensures named { take result.1 room.new
+            ≡ name_opened (open_answer (history_of keeper.old self.old.reading.seen) self.old.profile path.now ask) }
+        ensures justified { Justified self.old.profile path.now ask keeper.old.history self.old.reading.seen (of_still result.0) }
+        ensures name { IsNameJudged keeper.old.history path.now ask (of_still result.0) (take result.1 room.new) }
+        ensures published { IsByPublished (policy_after self.old.reading.seen self.old.profile) (of_still result.0) }
+    {
+        if self.published().is_none() {
+            return (mediation::Answer::NoProfile { policy_version }, 0);
+        }
+        let tree_version = keeper.version();
+        let opened = self.open_here(keeper, path, ask, policy_version, scratch, room);
+        answer_to_open(opened, tree_version, policy_version)
+    }
+
     /// Opens a file by the current tree, which the walker has met, and by the profile that was read last, which is from this
     /// version of the policy.
     pub(crate) fn open_here(

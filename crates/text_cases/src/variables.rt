@@ -1,6 +1,7 @@
 //! Paths with variables.
 use crate::memory::given;
-use apparmor_variables::{ExpandFault, Lists, Variable, one_slash};
+use apparmor_pieces::one_slash;
+use apparmor_variables::{ExpandFault, Lists, Variable};
 use names::NoMemory;
 use std::alloc::{AllocError, Global};
 use std::io;

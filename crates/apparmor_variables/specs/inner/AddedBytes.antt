@@ -3,7 +3,7 @@ use Rattle.std.specs.Prelude.{◌<◌, ◌++◌, Bool, List, length, Option, Som
 use Rattle.apparmor_variables.specs.PathTexts.{in_place}
 use Rattle.apparmor_variables.specs.declared.refusal.Refusal.{Refusal}
 use Rattle.apparmor_variables.specs.declared.refusal.Refusal.TheVariants.{Nothing, NoMemory}
-use Rattle.apparmor_variables.specs.Pieces.{Text}
+use Rattle.apparmor_pieces.specs.Pieces.{Text}
 use Rattle.apparmor_variables.specs.Variables.{most_bytes}
 
 abbrev pub Refused : Refusal → Text → Text → Type 0

@@ -2,7 +2,7 @@
 use Rattle.std.specs.Prelude.{ℕ, List, Option, None, slice_get, bytes_eq, option_and_then, unwrap_or, Bool, false, if◌then◌else◌}
 use Rattle.std.specs.List.{position_from}
 use Rattle.std.specs.Option.{option_map_or}
-use Rattle.apparmor_variables.specs.Pieces.{Text}
+use Rattle.apparmor_pieces.specs.Pieces.{Text}
 use Rattle.apparmor_variables.specs.Variables.{Variable, Known}
 
 -- the place of the variable of that name among the declared ones

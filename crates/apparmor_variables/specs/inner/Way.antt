@@ -3,7 +3,7 @@ use Rattle.std.specs.Prelude.{◌≡◌, ◌≢◌, ◌<◌, ℕ, List, [], ◌�
 use Rattle.std.specs.Prelude.{unwrap_or, option_and_then, Bool, true, false, ◌==◌, Contains}
 use Rattle.std.specs.List.{list_any}
 use Rattle.std.specs.Option.{option_map_or}
-use Rattle.apparmor_variables.specs.Pieces.{Text}
+use Rattle.apparmor_pieces.specs.Pieces.{Text}
 use Rattle.apparmor_variables.specs.Variables.{Variable, Known, list_at, names_needed, with_first_value}
 use Rattle.apparmor_variables.specs.inner.Known.{place_of, known_in, is_marked, is_named_marked, free_in}
 use Rattle.apparmor_variables.specs.declared.made_lists.Made.{Made}

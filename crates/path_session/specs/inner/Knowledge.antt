@@ -25,11 +25,14 @@ pub record Knowing : Type 0 where
   pub published : Option (Arc AnyProfile Global)
   pub kept_answers : ℕ
 
--- what it read last is a profile, and what the policy has published under its name as far as it was seen
+-- what it read last is what the policy has published under its name as far as it was seen
+abbrev pub IsReadAt : Knowing → ℕ → Type 0
+IsReadAt known policy =
+    (option_map judge_shared known.published ≡ policy_after known.reading.seen known.profile) × (policy ≡ length known.reading.seen)
+
+-- the same, and it is a profile
 abbrev pub IsCurrent : Knowing → ℕ → Type 0
-IsCurrent known policy =
-    IsSome known.published × (option_map judge_shared known.published ≡ policy_after known.reading.seen known.profile)
-    × (policy ≡ length known.reading.seen)
+IsCurrent known policy = IsSome known.published × IsReadAt known policy
 
 abbrev pub asked_by : Knowing → List ℕ → Perms → ℕ → ℕ → Asked
 asked_by known path ask tree policy = record { path = path; profile = known.profile; ask = ask; tree = tree; policy = policy }

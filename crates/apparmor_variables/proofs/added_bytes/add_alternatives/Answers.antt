@@ -2,7 +2,7 @@ use Rattle.std.proofs.Common.{◌≡◌, ◌+◌, ◌∷◌, ◌++◌, ℕ, List
 use Rattle.std.specs.Prelude.{slice_get, Bool}
 use Rattle.std.specs.List.{flat_map}
 use Rattle.std.proofs.lemmas.Result.{err_from_is_err_and}
-use Rattle.apparmor_variables.specs.Pieces.{Text}
+use Rattle.apparmor_pieces.specs.Pieces.{Text}
 use Rattle.apparmor_variables.specs.PathTexts.{alternative, alternatives}
 use Rattle.apparmor_variables.proofs.Gets.{drop_at_get}
 use Rattle.apparmor_variables.proofs.AddingSteps.{part_refused}

@@ -1,12 +1,12 @@
 use Rattle.std.proofs.Common.{◌≡◌, List, [], ◌∷◌, ◌++◌, refl, sym, ap, ◌∙◌, subst, append_assoc, append-nil}
 use Rattle.std.proofs.lemmas.Result.{err_from_is_err_and}
-use Rattle.apparmor_variables.specs.Pieces.{Text, Piece, use_of, pieces, names_in, used_names}
+use Rattle.apparmor_pieces.specs.Pieces.{Text, Piece, use_of, pieces, names_in, used_names}
 use Rattle.apparmor_variables.specs.Problems.{HasProblem}
 use Rattle.apparmor_variables.specs.PathTexts.{PathProblem, OfUse}
-use Rattle.apparmor_variables.specs.inner.CodePieces.{piece_value}
+use Rattle.apparmor_pieces.specs.CodePieces.{piece_value}
 use Rattle.apparmor_variables.specs.inner.Known.{known_in}
 use Rattle.apparmor_variables.specs.inner.Way.{AreKnown}
-use Rattle.apparmor_variables.specs.laws.PieceSteps.{no_pieces}
+use Rattle.apparmor_pieces.specs.laws.PieceSteps.{no_pieces}
 use Rattle.apparmor_variables.proofs.KnownLists.{are_listed, are_known_more, known_and_one}
 use Rattle.apparmor_variables.proofs.PathSteps.{tells_more}
 use Rattle.apparmor_variables.proofs.lists.make_used.Goals as goal

@@ -1,6 +1,6 @@
 -- The names before the rest are known.
 use Rattle.std.proofs.Common.{◌≡◌, ◌++◌, List, length}
-use Rattle.apparmor_variables.specs.Pieces.{Text, used_names}
+use Rattle.apparmor_pieces.specs.Pieces.{Text, used_names}
 use Rattle.apparmor_variables.specs.inner.Known.{known_in}
 use Rattle.apparmor_variables.specs.inner.Way.{IsSound, AreKnown}
 use Rattle.apparmor_variables.proofs.lists.make_used.Given as goal

@@ -1,7 +1,7 @@
 use Rattle.std.proofs.Common.{refl, sym, ap, ◌∙◌}
 use Rattle.apparmor_variables.specs.Variables.{texts_from}
 use Rattle.apparmor_variables.specs.inner.Known.{known_in}
-use Rattle.apparmor_variables.specs.laws.PieceSteps.{no_pieces}
+use Rattle.apparmor_pieces.specs.laws.PieceSteps.{no_pieces}
 use Rattle.apparmor_variables.proofs.one_list.texts_of.Goals as goal
 
 pub returns : goal.returns

@@ -1,6 +1,6 @@
 -- The pieces before the rest were taken.
 use Rattle.std.proofs.Common.{◌≡◌, length}
-use Rattle.apparmor_variables.specs.Pieces.{pieces}
+use Rattle.apparmor_pieces.specs.Pieces.{pieces}
 use Rattle.apparmor_variables.specs.Variables.{texts_from, value_texts}
 use Rattle.apparmor_variables.specs.inner.Known.{known_in}
 use Rattle.apparmor_variables.proofs.one_list.texts_of.Given as goal

@@ -1,6 +1,6 @@
 use Rattle.std.proofs.Common.{◌≡◌, List, [], ◌∷◌, length, Some, sym, ap, ◌∙◌, subst, arith}
 use Rattle.std.specs.Prelude.{slice_get}
-use Rattle.apparmor_variables.specs.Pieces.{Text}
+use Rattle.apparmor_pieces.specs.Pieces.{Text}
 use Rattle.apparmor_variables.specs.Variables.{fitting, each_with}
 use Rattle.apparmor_variables.specs.inner.Gives.{Gives}
 use Rattle.apparmor_variables.proofs.one_list.with_list.Goals as goal

@@ -1,5 +1,5 @@
 use Rattle.std.proofs.Common.{◌≡◌, ◌<◌, List, ℕ, [], ◌∷◌, length, sym, refl, arith}
-use Rattle.apparmor_variables.specs.laws.PieceSteps.{text_slash, no_slash}
+use Rattle.apparmor_variables.proofs.FirstSlashes.{text_slash, no_slash}
 use Rattle.apparmor_variables.proofs.placement.begins_with_slash.Goals as goal
 
 empty : (text : List ℕ) → length text < 1 → text ≡ []

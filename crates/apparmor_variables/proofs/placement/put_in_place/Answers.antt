@@ -1,12 +1,12 @@
 use Rattle.std.proofs.Common.{refl, sym, ap, ◌∙◌}
 use Rattle.std.proofs.lemmas.Result.{err_from_is_err_and}
-use Rattle.apparmor_variables.specs.Pieces.{pieces}
+use Rattle.apparmor_pieces.specs.Pieces.{pieces}
 use Rattle.apparmor_variables.specs.PathTexts.{text_of}
 use Rattle.apparmor_variables.specs.Variables.{piece_texts}
-use Rattle.apparmor_variables.specs.inner.CodePieces.{piece_value}
+use Rattle.apparmor_pieces.specs.CodePieces.{piece_value}
 use Rattle.apparmor_variables.specs.inner.Known.{known_in}
 use Rattle.apparmor_variables.proofs.PathSteps.{piece_refused}
-use Rattle.apparmor_variables.specs.laws.PieceSteps.{no_pieces}
+use Rattle.apparmor_pieces.specs.laws.PieceSteps.{no_pieces}
 use Rattle.apparmor_variables.proofs.placement.put_in_place.Goals as goal
 
 pub returns-clause-text : goal.returns-clause-text

@@ -1,6 +1,6 @@
 -- The text so far followed by what the rest becomes is the whole, if there is a whole.
 use Rattle.std.proofs.Common.{◌≡◌, List, ℕ, length}
-use Rattle.apparmor_variables.specs.Pieces.{pieces}
+use Rattle.apparmor_pieces.specs.Pieces.{pieces}
 use Rattle.apparmor_variables.specs.PathTexts.{text_of, path_text}
 use Rattle.apparmor_variables.specs.inner.Known.{known_in}
 use Rattle.apparmor_variables.proofs.placement.put_in_place.Given as goal

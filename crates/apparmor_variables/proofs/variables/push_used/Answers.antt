@@ -1,6 +1,6 @@
 use Rattle.std.proofs.Common.{◌++◌, map, refl, sym, ap, ◌∙◌, append-nil}
-use Rattle.apparmor_variables.specs.Pieces.{names_in}
-use Rattle.apparmor_variables.specs.laws.PieceSteps.{no_pieces}
+use Rattle.apparmor_pieces.specs.Pieces.{names_in}
+use Rattle.apparmor_pieces.specs.laws.PieceSteps.{no_pieces}
 use Rattle.apparmor_variables.proofs.variables.push_used.Goals as goal
 
 pub returns : goal.returns

@@ -1,6 +1,6 @@
 -- The names that were pushed and those that the rest uses are those that the text uses.
 use Rattle.std.proofs.Common.{◌≡◌, ◌++◌, map, length}
-use Rattle.apparmor_variables.specs.Pieces.{used_names}
+use Rattle.apparmor_pieces.specs.Pieces.{used_names}
 use Rattle.apparmor_variables.proofs.variables.push_used.Given as goal
 
 abbrev pub invariant-loop-piece : goal.invariant-loop-piece

@@ -1,6 +1,6 @@
 use Rattle.std.proofs.Common.{List, [], ap, ◌∙◌, subst, sym}
 use Rattle.std.proofs.lemmas.Result.{err_from_is_err_and}
-use Rattle.apparmor_variables.specs.Pieces.{pieces}
+use Rattle.apparmor_pieces.specs.Pieces.{pieces}
 use Rattle.apparmor_variables.specs.Variables.{Variable, list_at}
 use Rattle.apparmor_variables.specs.PathTexts.{path_text, IsSubstituted, PathProblem}
 use Rattle.apparmor_variables.specs.Faults.{Tells}

@@ -1,7 +1,7 @@
 use Rattle.std.proofs.Common.{◌≡◌, List, [], Some, None, sym, ap, ◌∙◌, subst, suc}
 use Rattle.std.specs.Prelude.{slice_get, unwrap_or}
 use Rattle.std.proofs.lemmas.List.{length-set}
-use Rattle.apparmor_variables.specs.Pieces.{Text}
+use Rattle.apparmor_pieces.specs.Pieces.{Text}
 use Rattle.apparmor_variables.specs.Variables.{Variable, list_of_values}
 use Rattle.apparmor_variables.specs.inner.Known.{known_in}
 use Rattle.apparmor_variables.specs.inner.Way.{Lists, AreKnown, variable_at, needed_at}

@@ -1,7 +1,7 @@
 use Rattle.std.proofs.Common.{List, arith, ◌≡◌, ◌≤◌, ◌++◌, ◌∷◌, [], length, map, refl, ap, sym, ◌∙◌, append-nil}
 use Rattle.std.proofs.lemmas.Bool.{eqb-true}
 use Rattle.std.proofs.lemmas.List.{length-map}
-use Rattle.apparmor_variables.specs.Pieces.{Text}
+use Rattle.apparmor_pieces.specs.Pieces.{Text}
 use Rattle.apparmor_variables.specs.Variables.{byte_count, each_with, most_texts}
 use Rattle.apparmor_variables.proofs.TextLists.{Bytes, items, refused_end, seen_length, each_with_one, ended_bytes, made}
 use Rattle.apparmor_variables.proofs.texts.Texts.each_with_end.Goals as goal

@@ -3,9 +3,7 @@ use Rattle.std.proofs.Common.{◌≡◌, ◌≢◌, ℕ, zero, suc, ◌+◌, ◌
 use Rattle.std.proofs.Common.{Some, None, refl, sym, ap, ◌∙◌, subst, ⊎_elim, arith, length-append}
 use Rattle.std.proofs.lemmas.List.{take_rest}
 use Rattle.std.proofs.lemmas.Bool.{ne_eqb, cases_eq}
-use Rattle.names.specs.Paths.{is_slash}
-use Rattle.apparmor_variables.specs.PathTexts.{begins_with_slash}
-use Rattle.apparmor_variables.specs.Pieces.{Text, Piece, byte, use_of, written, used_name, escape, first_piece, pieces_behind, pieces}
+use Rattle.apparmor_pieces.specs.Pieces.{Text, Piece, byte, use_of, written, used_name, escape, first_piece, pieces_behind, pieces}
 
 -- bytes already listed are skipped
 pub pieces_behind-drop : (n : ℕ) (text : Text) → pieces_behind n text ≡ pieces (drop n text)
@@ -53,32 +51,3 @@ use_length name = let h = length-append name (125 ∷ []) in omega (arith, h)
 pub no_pieces : (text : Text) → text ≡ [] → pieces text ≡ []
 unfolding pieces_behind
 no_pieces text e = ap pieces e
-
--- ---- whether a text begins with a slash
-
-escape_slash : (bytes : Text) (more : List Piece) → begins_with_slash (escape bytes ∷ more) ≡ false
-escape_slash [] more = refl
-escape_slash (b ∷ bytes) more = refl
-
-at_slash : (o : Option Text) (more : List Piece) → begins_with_slash (at_sign o ∷ more) ≡ false
-at_slash None more = refl
-at_slash (Some name) more = refl
-
-first_slash : (b : ℕ) (bytes : Text) (more : List Piece) → begins_with_slash (first_piece b bytes ∷ more) ≡ is_slash b
-first_slash b bytes more =
-    ⊎_elim
-    (λ same. subst (λ (x : ℕ). begins_with_slash (first_piece x bytes ∷ more) ≡ is_slash x) (sym same) (escape_slash bytes more))
-    (λ no_escape. ⊎_elim
-    (λ same. subst (λ (x : ℕ). begins_with_slash (first_piece x bytes ∷ more) ≡ is_slash x) (sym same)
-    (ap (λ (p : Piece). begins_with_slash (p ∷ more)) (at_first bytes (used_name bytes) refl) ∙ at_slash (used_name bytes) more))
-    (λ no_at. ap (λ (p : Piece). begins_with_slash (p ∷ more)) (plain_first b bytes no_escape no_at))
-    (cases_eq b 64))
-    (cases_eq b 92)
-
-pub text_slash : (text : Text) → 1 ≤ length text → begins_with_slash (pieces text) ≡ is_slash (get_or text 0 0)
-unfolding pieces_behind
-text_slash [] some = absurd (omega arith)
-text_slash (b ∷ bytes) some = first_slash b bytes (pieces_behind (length (written (first_piece b bytes)) - 1) bytes)
-
-pub no_slash : (text : Text) → text ≡ [] → begins_with_slash (pieces text) ≡ false
-no_slash text e = ap begins_with_slash (no_pieces text e)

@@ -3,8 +3,8 @@ use Rattle.std.proofs.Common.{◌≡◌, ℕ, Bool, true, false, cond, [], ◌�
 use Rattle.std.specs.Prelude.{◌&&◌, not}
 use Rattle.std.proofs.lemmas.Bool.{eqb-true}
 use Rattle.names.specs.Paths.{is_slash}
-use Rattle.apparmor_variables.specs.Pieces.{Text, begins}
-use Rattle.apparmor_variables.specs.Slashes.{runs_joined, begins_with_two, one_slash}
+use Rattle.apparmor_pieces.specs.Pieces.{Text, begins}
+use Rattle.apparmor_pieces.specs.Slashes.{runs_joined, begins_with_two, one_slash}
 
 first_holds : (a b : Bool) → a && b ≡ true → a ≡ true
 first_holds true b h = refl

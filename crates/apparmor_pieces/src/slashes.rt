@@ -1,6 +1,6 @@
 //! Runs of slashes.
 ghost use Rattle.std.specs.Prelude.{◌≡◌, ◌++◌, false, IfOk, OnOk};
-ghost use Rattle.apparmor_variables.specs.Slashes.{begins_with_two, one_slash, runs_joined};
+ghost use Rattle.apparmor_pieces.specs.Slashes.{begins_with_two, one_slash, runs_joined};
 
 use names::NoMemory;
 use std::alloc::{AllocError, Global};

@@ -1,8 +1,8 @@
 use Rattle.std.proofs.Common.{◌+◌, ◌-◌, ◌∷◌, Some, None, length, drop, take, get_or, refl, sym, ap, ◌∙◌}
 use Rattle.std.proofs.lemmas.List.{take_rest}
-use Rattle.apparmor_variables.specs.Pieces.{Text, byte, use_of, pieces_behind, pieces, escape}
-use Rattle.apparmor_variables.specs.laws.PieceSteps.{pieces_behind-drop, begins_with, plain_first, at_first, use_length}
-use Rattle.apparmor_variables.proofs.pieces.split_piece.Goals as goal
+use Rattle.apparmor_pieces.specs.Pieces.{Text, byte, use_of, pieces_behind, pieces, escape}
+use Rattle.apparmor_pieces.specs.laws.PieceSteps.{pieces_behind-drop, begins_with, plain_first, at_first, use_length}
+use Rattle.apparmor_pieces.proofs.pieces.split_piece.Goals as goal
 
 pub returns-then-byte-eq92-clause-some : goal.returns-then-byte-eq92-clause-some
 returns-then-byte-eq92-clause-some c =

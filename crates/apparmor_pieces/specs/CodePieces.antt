@@ -1,7 +1,7 @@
 -- The code's pieces as those of the definitions.
-use Rattle.apparmor_variables.specs.Pieces as pieces
-use Rattle.apparmor_variables.specs.declared.pieces.Piece.{Piece}
-use Rattle.apparmor_variables.specs.declared.pieces.Piece.TheVariants.{Byte, Escaped, Use}
+use Rattle.apparmor_pieces.specs.Pieces as pieces
+use Rattle.apparmor_pieces.specs.declared.pieces.Piece.{Piece}
+use Rattle.apparmor_pieces.specs.declared.pieces.Piece.TheVariants.{Byte, Escaped, Use}
 
 abbrev pub piece_value : Piece → pieces.Piece
 piece_value (Byte b) = pieces.byte b

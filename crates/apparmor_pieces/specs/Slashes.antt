@@ -3,7 +3,7 @@
 use Rattle.std.specs.Prelude.{Bool, true, false, not, ◌&&◌, if◌then◌else◌, [], ◌∷◌}
 use Rattle.names.specs.Ascii as ascii
 use Rattle.names.specs.Paths.{is_slash}
-use Rattle.apparmor_variables.specs.Pieces.{Text, begins}
+use Rattle.apparmor_pieces.specs.Pieces.{Text, begins}
 
 -- the bytes with one slash for each run, by whether a slash is directly before them
 abbrev pub runs_joined : Bool → Text → Text

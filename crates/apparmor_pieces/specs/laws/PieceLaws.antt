@@ -6,9 +6,9 @@ use Rattle.std.specs.Char.{is_ascii_alphabetic}
 use Rattle.std.specs.List.{flat_map, prefix_len, take_while}
 use Rattle.std.proofs.lemmas.List.{take-append-drop}
 use Rattle.std.proofs.lemmas.Bool.{eqb-true, cases_eq}
-use Rattle.apparmor_variables.specs.Pieces.{Text, Piece, use_of, written, begins, is_name_byte, is_close_brace, closed_name, used_name}
-use Rattle.apparmor_variables.specs.Pieces.{escape, first_piece, pieces_behind}
-use Rattle.apparmor_variables.specs.laws.PieceSteps.{at_sign, at_first, plain_first, use_length}
+use Rattle.apparmor_pieces.specs.Pieces.{Text, Piece, use_of, written, begins, is_name_byte, is_close_brace, closed_name, used_name}
+use Rattle.apparmor_pieces.specs.Pieces.{escape, first_piece, pieces_behind}
+use Rattle.apparmor_pieces.specs.laws.PieceSteps.{at_sign, at_first, plain_first, use_length}
 
 both_hold : (a b : Bool) → a && b ≡ true → b ≡ true
 both_hold true b h = h

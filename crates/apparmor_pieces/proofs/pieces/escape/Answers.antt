@@ -1,7 +1,7 @@
 use Rattle.std.proofs.Common.{◌≡◌, ◌-◌, ◌≤◌, ◌∷◌, [], length, drop, ◌∙◌, arith}
-use Rattle.apparmor_variables.specs.Pieces.{Text, pieces_behind, pieces, written, escape}
-use Rattle.apparmor_variables.specs.laws.PieceSteps.{pieces_behind-drop, told}
-use Rattle.apparmor_variables.proofs.pieces.escape.Goals as goal
+use Rattle.apparmor_pieces.specs.Pieces.{Text, pieces_behind, pieces, written, escape}
+use Rattle.apparmor_pieces.specs.laws.PieceSteps.{pieces_behind-drop, told}
+use Rattle.apparmor_pieces.proofs.pieces.escape.Goals as goal
 
 -- a backslash followed by a byte forms one piece with it
 one_told : (bytes : Text) → 1 ≤ length bytes → pieces_behind (length (written (escape bytes)) - 1) bytes ≡ pieces (drop 1 bytes)

@@ -2,12 +2,12 @@
 ghost use Rattle.std.specs.Prelude.{◌≡◌, ◌∷◌, ◌<◌, ◌≤◌, ◌+◌, ◌-◌, [], length, IfSome, None};
 ghost use Rattle.std.specs.List.{prefix_len};
 ghost use Rattle.std.specs.Option.{option_map};
-ghost use Rattle.apparmor_variables.specs.Pieces.{is_name_byte, closed_name, used_name, escape, written, pieces_behind, pieces};
-ghost use Rattle.apparmor_variables.specs.inner.CodePieces.{piece_value};
+ghost use Rattle.apparmor_pieces.specs.Pieces.{is_name_byte, closed_name, used_name, escape, written, pieces_behind, pieces};
+ghost use Rattle.apparmor_pieces.specs.CodePieces.{piece_value};
 
 /// A piece of a text.
-#[derive(Clone, Copy)]
-pub(crate) enum Piece<'t> {
+#[derive(Clone, Copy, Debug)]
+pub enum Piece<'t> {
     /// A byte that stands for itself.
     Byte(u8),
     /// A backslash and the byte after it.
@@ -76,7 +76,7 @@ fn escape(bytes: &[u8]) -> (Piece<'_>, &[u8])
 }
 
 /// The first piece of a text, and what is left after it.
-pub(crate) fn split_piece(text: &[u8]) -> Option<(Piece<'_>, &[u8])>
+pub fn split_piece(text: &[u8]) -> Option<(Piece<'_>, &[u8])>
     ensures none { result ≡ None → text.now ≡ [] }
     ensures some { IfSome result (λ cut. pieces text.now ≡ piece_value cut.0 ∷ pieces cut.1.now) }
     ensures shorter { IfSome result (λ cut. length cut.1.now < length text.now) }

@@ -1,0 +1,4 @@
+pub mod Pieces
+pub mod CodePieces
+pub mod Slashes
+pub mod laws

@@ -1,5 +1,0 @@
-use Rattle.apparmor_variables.proofs.SlashLaws.{slashes_stay}
-use Rattle.apparmor_variables.proofs.laws.one_slash_stays.Goals as goal
-
-pub returns : goal.returns
-returns c = slashes_stay

@@ -1,5 +1,0 @@
-use Rattle.apparmor_variables.specs.laws.PieceLaws.{written_again}
-use Rattle.apparmor_variables.proofs.laws.texts_are_their_pieces.Goals as goal
-
-pub returns : goal.returns
-returns c = written_again 0
