@@ -15,7 +15,7 @@ ghost use Rattle.path_session.specs.Sessions.{counted};
 ghost use Rattle.path_session.specs.AtHand.{IsAnswer, MayCountKept};
 ghost use Rattle.mediation.specs.Deeds.{policy_after};
 ghost use Rattle.path_session.specs.KeeperStates.{plain_of, history_of};
-ghost use Rattle.path_session.specs.inner.Knowledge.{IsCurrent, IsReadAt, asked_by};
+ghost use Rattle.path_session.specs.inner.Knowledge.{IsCurrent, IsOfVersions, IsReadAt, asked_by};
 ghost use Rattle.kept_verdicts.specs.KeptFiles.{kept_of};
 ghost use Rattle.path_session.specs.inner.Right.{IsRightFor};
 ghost use Rattle.path_session.specs.inner.Walks.{end_of};
@@ -102,6 +102,7 @@ impl Knowledge {
         ensures fits { result.1 ≤ longest_path }
         ensures answer { answered (take result.1 room.new) result.0
             ≡ open_answer (history_of keeper.old self.old.reading.seen) self.old.profile path.now ask }
+        ensures versions { IsOfVersions (length keeper.old.history) policy_version (of_still result.0) }
         ensures named { take result.1 room.new
             ≡ name_opened (open_answer (history_of keeper.old self.old.reading.seen) self.old.profile path.now ask) }
         ensures justified { Justified self.old.profile path.now ask keeper.old.history self.old.reading.seen (of_still result.0) }

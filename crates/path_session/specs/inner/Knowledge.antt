@@ -37,6 +37,14 @@ IsCurrent known policy = IsSome known.published × IsReadAt known policy
 abbrev pub asked_by : Knowing → List ℕ → Perms → ℕ → ℕ → Asked
 asked_by known path ask tree policy = record { path = path; profile = known.profile; ask = ask; tree = tree; policy = policy }
 
+-- an answer names these versions, of those that it names
+abbrev pub IsOfVersions : ℕ → ℕ → Answer → Type 0
+IsOfVersions tree policy (answer.Judged verdict node tree_version policy_version) = (tree_version ≡ tree) × (policy_version ≡ policy)
+IsOfVersions tree policy (answer.Failed errno tree_version) = tree_version ≡ tree
+IsOfVersions tree policy (answer.NoProfile policy_version) = policy_version ≡ policy
+IsOfVersions tree policy (answer.Busy began ended) = Unit {0}
+IsOfVersions tree policy answer.NoEntry = Unit {0}
+
 -- the answer to an open that ended so, by the policy of this version, and the name that it judged
 abbrev pub answer_of : ℕ → Result Opened Busy → Answer
 answer_of policy (Ok opened) = elim opened.file [
