@@ -73,21 +73,21 @@ tour: aa-trace
 	python3 tools/tour
 
 bench: aa-trace
-	sh bench/run.sh
-	sh bench/compile.sh
-	sh bench/match.sh
-	python3 bench/mixes.py
-	python3 bench/chains.py
-	python3 bench/growth
-	sh bench/judge.sh
-	sh bench/row.sh
-	sh bench/cache.sh
-	sh bench/steps.sh
-	sh bench/registry.sh
-	sh bench/open.sh
-	sh bench/kept.sh
-	sh bench/questions.sh
-	sh bench/linux.sh
+	bench/run
+	bench/compile
+	bench/match
+	bench/mixes
+	bench/chains
+	bench/growth
+	bench/judge
+	bench/row
+	bench/cache
+	bench/steps
+	bench/registry
+	bench/open
+	bench/kept
+	bench/questions
+	bench/linux
 
 calls: aa-trace $(LIBRARY)
 	tools/batch-loop

@@ -52,7 +52,7 @@ static uint32_t word_at(const uint8_t *bytes) {
 }
 
 /* Whether an answer on reading is what the record of the name's last state says. */
-static int is_told(const coqetwal_table *table, uint32_t state, size_t length, struct coqetwal_answer answer) {
+static int is_right(const coqetwal_table *table, uint32_t state, size_t length, struct coqetwal_answer answer) {
     const uint8_t *image = coqetwal_image(table);
     size_t states = word_at(image + 8), cells = word_at(image + 12);
     /* Version 2 has one more number for each state, its depth, and longer records. */
@@ -139,7 +139,7 @@ static void time_name(const coqetwal_table *table, struct text name, struct time
     double end = now();
     keep_least(&times->loop, (middle - begin) / REPEATS);
     keep_least(&times->judged, (end - middle) / REPEATS);
-    if (!is_told(table, state, name.length, answer)) fail("an answer isn't what the state's record tells");
+    if (!is_right(table, state, name.length, answer)) fail("an answer isn't what the state's record says");
 }
 
 /* The last states of all names, and the answers on them. */
@@ -150,8 +150,8 @@ struct results {
 
 static void compare(const coqetwal_table *table, const struct names *names, const struct results *results) {
     for (size_t i = 0; i < names->count; i++)
-        if (!is_told(table, results->states[i], name_at(names, i).length, results->answers[i]))
-            fail("an answer isn't what the state's record tells");
+        if (!is_right(table, results->states[i], name_at(names, i).length, results->answers[i]))
+            fail("an answer isn't what the state's record says");
 }
 
 /* All names in their order, and in a batch. */

@@ -132,7 +132,8 @@ static struct walk run_in_c(struct text image, struct text names, uint32_t round
     size_t length = names.length / count;
     for (uint32_t round = 0; round < rounds; round++)
         for (size_t i = 0; i < count; i++) {
-            states[i] = table.depth ? chained_run(&table, names.bytes + i * length, length) : run(&table, names.bytes + i * length, length);
+            const uint8_t *name = names.bytes + i * length;
+            states[i] = table.depth ? chained_run(&table, name, length) : run(&table, name, length);
             walk.steps += length;
         }
     unload(table);

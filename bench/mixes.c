@@ -4,7 +4,7 @@
  *
  *     mixes IMAGE KERNEL NAMES PLACES ROUNDS
  *
- * NAMES has a name in each line. KERNEL is a file of AppArmor's tables as bench/mixes.py writes it, or `-`. Each name is taken
+ * NAMES has a name in each line. KERNEL is a file of AppArmor's tables as bench/mixes writes it, or `-`. Each name is taken
  * REPEATS times by itself, and the mean over the first SINGLE names is printed; then DRAWN of the names in random order. Each time is
  * the least of ROUNDS runs at each of PLACES places of the tables in memory, in nanoseconds for one name. It prints, in one line:
  * repeated kernel, C, proved; drawn kernel, C, proved, batch. What wasn't measured is 0. */

@@ -295,8 +295,9 @@ fn grown() -> Tree {
     tree
 }
 
+/// What is changed while files are opened.
 #[derive(Clone, Copy, PartialEq, Eq)]
-enum Beside {
+enum Meanwhile {
     Nothing,
     OtherName,
     OwnName,
@@ -308,7 +309,7 @@ struct Side<'a> {
     path: &'a [u8],
     /// The names that its directory has in turn.
     names: [&'a [u8]; 2],
-    beside: Beside,
+    meanwhile: Meanwhile,
     threads: usize,
     opens: u64,
     rest: Duration,
@@ -322,8 +323,8 @@ fn open_often(world: &RwLock<World>, side: &Side) -> u64 {
         let answer = world.read().unwrap().open(side.path, 1, &mut room);
         match answer {
             Answer::Judged { verdict: Verdict::Allowed, .. } => {}
-            Answer::Failed { errno: Errno::NoEntry, .. } if side.beside == Beside::OwnName => missing += 1,
-            _ => panic!("an open wasn't answered by what stands there"),
+            Answer::Failed { errno: Errno::NoEntry, .. } if side.meanwhile == Meanwhile::OwnName => missing += 1,
+            _ => panic!("an open wasn't answered by what is there"),
         }
     }
     missing
@@ -332,11 +333,11 @@ fn open_often(world: &RwLock<World>, side: &Side) -> u64 {
 /// Changes what is to be changed until the opens are done, and returns how often; at the end the names are as before.
 fn change_until(world: &RwLock<World>, side: &Side, profiles: &[Arc<Table>; 2], done: &AtomicBool) -> u64 {
     let mut changes = 0;
-    let [name, other]: [&[u8]; 2] = if side.beside == Beside::OtherName { [b"/aside", b"/away"] } else { side.names };
-    while side.beside != Beside::Nothing && !done.load(Ordering::SeqCst) {
+    let [name, other]: [&[u8]; 2] = if side.meanwhile == Meanwhile::OtherName { [b"/aside", b"/away"] } else { side.names };
+    while side.meanwhile != Meanwhile::Nothing && !done.load(Ordering::SeqCst) {
         for turn in 0..2 {
-            match side.beside {
-                Beside::Profile => world.write().unwrap().publish(&profiles[turn]),
+            match side.meanwhile {
+                Meanwhile::Profile => world.write().unwrap().publish(&profiles[turn]),
                 _ if turn == 0 => world.write().unwrap().rename(name, other),
                 _ => world.write().unwrap().rename(other, name),
             }
@@ -371,13 +372,13 @@ fn main() {
     let profiles = [Arc::new(Table::of_image(&image)), Arc::new(Table::of_image(&image))];
     let world = RwLock::new(World { tree: grown(), tree_version: 117, profiles: HashMap::new(), policy_version: 0 });
     world.write().unwrap().publish(&profiles[0]);
-    let besides = [
-        ("nothing", Beside::Nothing),
-        ("other_name", Beside::OtherName),
-        ("own_name", Beside::OwnName),
-        ("profile", Beside::Profile),
+    let kinds = [
+        ("nothing", Meanwhile::Nothing),
+        ("other_name", Meanwhile::OtherName),
+        ("own_name", Meanwhile::OwnName),
+        ("profile", Meanwhile::Profile),
     ];
-    for (beside_name, beside) in besides {
+    for (kind, meanwhile) in kinds {
         for (name, path, depth) in [
             ("down_1", "", 1),
             ("down_2", "", 2),
@@ -392,10 +393,10 @@ fn main() {
             let own = [directory, b"/file"].concat();
             let path = if path.is_empty() { own.as_slice() } else { path.as_bytes() };
             for threads in [1, 4] {
-                let side = Side { path, names: [directory, &renamed], beside, threads, opens, rest };
+                let side = Side { path, names: [directory, &renamed], meanwhile, threads, opens, rest };
                 let (took, missing, changes) = measure(&world, &side, &profiles);
                 let count = opens * threads as u64;
-                println!("{name} {beside_name} {threads} {count} {} 0 {missing} {changes}", took.as_nanos());
+                println!("{name} {kind} {threads} {count} {} 0 {missing} {changes}", took.as_nanos());
             }
         }
     }

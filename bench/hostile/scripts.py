@@ -27,7 +27,7 @@ def links(text):
 
 
 def with_one_home(count):
-    """Names in the root whose homes in the index are the same, as docs/RULES.md says."""
+    """Names in the root whose homes in the index are the same, as docs/RULES-TREE.md says."""
     homes, found = 2 * CAPACITY, []
     last_two = {}
     for pair in product(LETTERS, repeat=2):
