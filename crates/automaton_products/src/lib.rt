@@ -1,7 +1,7 @@
 //! The product of two automata: it runs both at once, and its records have the hits of both.
 //!
-//! The definitions to believe are those in `specs/Products.antt` and `specs/Numbering.antt`; the other is of private contracts and
-//! proofs.
+//! The definitions to believe are those in `specs/Products.antt` and `specs/Numbers.antt`; those in `specs/ProductStates.antt` are
+//! of private contracts and proofs.
 #![tactic(auto)]
 
 mod joins;

@@ -1,4 +1,4 @@
-//! Benchmarks, each with a word of the command line:
+//! Benchmarks, each chosen by a word of the command line.
 //!
 //! - `compile` compiles the profile on standard input, once or as often as its word says, and prints how many states its automaton
 //!   has;

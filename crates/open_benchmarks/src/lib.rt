@@ -1,5 +1,5 @@
-//! Opens by sessions in threads, timed: of one file while a keeper renames or a publisher replaces the profile ([`time_opens`]), and
-//! of the same files again and again, by sessions that keep verdicts and by ones that keep none ([`time_kept`]).
+//! Opens by sessions in threads, timed: of one file while a keeper renames or a publisher replaces the profile (`time_opens`), and
+//! of the same files again and again, by sessions that keep verdicts and by ones that keep none (`time_kept`).
 #![tactic(auto)]
 
 mod kept;

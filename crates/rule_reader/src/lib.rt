@@ -1,6 +1,5 @@
 //! Reading of profile texts: the grammar, the faults of a text by number and place, the profiles that reading makes, and where
-//! their rules are in the text. A profile can also be made from a name and rules, which pass the same tests. The text of a path
-//! alone can be read as its items.
+//! their rules are in the text. The text of a path alone can be read as its items.
 //!
 //! The definitions to believe are those in `specs/`: the grammar, its profiles, the places of rules, and which fault is the first.
 //! Those in `specs/inner/` are of private contracts and proofs.

@@ -1,11 +1,11 @@
-//! Texts, and what is said of them: tests of the libraries that read texts and judge names by them. The program reads cases from
-//! standard input, and writes each with what is said of its text. The file `stdout` has what it must write, so it reads as a
+//! Texts, and what is reported about them: tests of the libraries that read texts and judge names by them. The program reads cases from
+//! standard input, and writes each with what is reported about its text. The file `stdout` has what it must write, so it reads as a
 //! list of worked examples.
 //!
 //! A case begins with a line `=== ` and a title. The next line is the view, which says what is asked. Lines that begin with `+ `
 //! are options of the view, and what follows them is the text, as `bytes_of` of `test_parts` reads it; the line end before the
-//! next case is not of the text. Where a view is of lines, each line of the text is a text of its own, and is written before what
-//! is said of it.
+//! next case is not a part of it. Where a view is of lines, each line of the text is a text of its own, and is written before what
+//! is reported about it.
 //!
 //! | view | options | what is written |
 //! |---|---|---|

@@ -1,5 +1,5 @@
-//! What `aa-trace` does with its words, over any streams: [`run_words`] reads the command line and runs the command's engine.
-//! [`run_plain`] is a second engine of `run`, on a tree in plain memory.
+//! What `aa-trace` does with its words, over any streams: `run_words` reads the command line and runs the command's engine.
+//! `run_plain` is a second engine of `run`, on a tree in plain memory.
 //!
 //! The definitions to believe are those in `specs/`.
 #![tactic(auto)]

@@ -1,5 +1,5 @@
-//! Questions about all names, as commands: whether a pattern has a name that a profile allows something to, or one that it doesn't;
-//! what only one of two profiles allows; and which rules decide nothing.
+//! Questions about all names, as commands: whether a pattern has a name that a profile allows something to, or one that it doesn't,
+//! and what only one of two profiles allows.
 //!
 //! The definitions to believe are those in `specs/`; those in `specs/inner/` are of private contracts and proofs.
 #![tactic(auto)]
