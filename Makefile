@@ -53,11 +53,11 @@ need-rt:
 # What is built needs no rt: it can be installed without one.
 aa-trace: $(SOURCES)
 	@:$(NEED_RT)
-	@python3 tools/build.py
+	@tools/build
 
 $(LIBRARY): $(LIBRARY_SOURCES)
 	@:$(NEED_RT)
-	@python3 tools/build.py coqetwal
+	@tools/build coqetwal
 	@touch $@
 
 run: need-rt
@@ -65,12 +65,12 @@ run: need-rt
 
 test: need-rt
 	@tools/version-check
-	@python3 tools/definitions --cited path_session Session::try_open --most 900 >/dev/null
+	@tools/definitions --cited path_session Session::try_open --most 900 >/dev/null
 	@tools/cited-lemmas --most 30 >/dev/null
 	rt ci
 
 tour: aa-trace
-	python3 tools/tour
+	tools/tour
 
 bench: aa-trace
 	sh bench/run.sh
@@ -91,27 +91,27 @@ bench: aa-trace
 
 calls: aa-trace $(LIBRARY)
 	tools/batch-loop
-	python3 tools/calls.py
+	tools/calls
 
 embed: aa-trace $(LIBRARY)
-	sh tools/embed.sh
+	tools/embed
 
 refusals: aa-trace
-	sh tools/refuse-allocations.sh
+	tools/refuse-allocations
 
 storm: aa-trace
-	sh tools/storm.sh
-	sh tools/random-storms.sh
+	tools/storm
+	tools/random-storms
 
 serve: need-rt
-	sh tools/serve-example.sh
+	tools/serve-example
 
 drawn: need-rt
 	tools/drawn-changes
 	tools/drawn-scripts
 
 fuzz: aa-trace
-	python3 tools/fuzz --cases $(N) --seed $(SEED)
+	tools/fuzz --cases $(N) --seed $(SEED)
 
 edits: need-rt
 	tools/more-edits --anew
@@ -124,10 +124,10 @@ reproduce: aa-trace $(LIBRARY)
 	@cd $(dir $(LIBRARY)) && sha256sum $(notdir $(LIBRARY))
 
 install: aa-trace $(LIBRARY)
-	@sh tools/install.sh
+	@tools/install
 
 uninstall:
-	@sh tools/install.sh uninstall
+	@tools/install uninstall
 
 help:
 	@sed -n '/^#/!q; s/^# \{0,1\}//p' $(firstword $(MAKEFILE_LIST))

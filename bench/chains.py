@@ -46,7 +46,7 @@ def build(work):
         print("no gcc: names are not timed", flush=True)
         return False
     print("proving and building the static library ..", flush=True)
-    subprocess.run([sys.executable, f"{TOP}/tools/build.py", "loop_bench"], stdout=subprocess.DEVNULL, check=True)
+    subprocess.run([f"{TOP}/tools/build", "loop_bench"], stdout=subprocess.DEVNULL, check=True)
     heap = os.path.dirname(mixes.run(["rt", "doc"]).decode().strip()) + "/c/liblibc_c.a"
     library = f"{TOP}/crates/loop_bench/out/libloop_bench.a"
     mixes.run(["gcc", "-std=c99", "-D_POSIX_C_SOURCE=199309L", "-O2", "-o", f"{work}/chains", f"{TOP}/bench/chains.c", library, heap])

@@ -29,7 +29,7 @@ trap 'rm -rf "$work"' EXIT
 
 if [ -z "${COMPILE:-}" ]; then
     echo 'proving and building benchmarks ..'
-    python3 tools/build.py benchmarks >"$work/log" 2>&1 || { cat "$work/log"; exit 1; }
+    tools/build benchmarks >"$work/log" 2>&1 || { cat "$work/log"; exit 1; }
     COMPILE='crates/benchmarks/out/benchmarks compile'
 fi
 if command -v apparmor_parser >/dev/null 2>&1; then parser=yes; else parser=; fi

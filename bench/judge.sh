@@ -11,7 +11,7 @@ work=$(mktemp -d)
 trap 'rm -rf "$work"' EXIT
 
 for library in coqetwal loop_bench; do
-    python3 tools/build.py "$library" >"$work/log" 2>&1 || { cat "$work/log"; exit 1; }
+    tools/build "$library" >"$work/log" 2>&1 || { cat "$work/log"; exit 1; }
 done
 # The calls of malloc and free that loop_bench makes.
 heap=$(dirname "$(rt doc)")/c/liblibc_c.a

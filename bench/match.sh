@@ -12,7 +12,7 @@ work=$(mktemp -d)
 trap 'rm -rf "$work"' EXIT
 
 echo 'proving and building the static library ..'
-python3 tools/build.py loop_bench >"$work/log" 2>&1 || { cat "$work/log"; exit 1; }
+tools/build loop_bench >"$work/log" 2>&1 || { cat "$work/log"; exit 1; }
 # The calls of malloc and free that the library makes.
 heap=$(dirname "$(rt doc)")/c/liblibc_c.a
 

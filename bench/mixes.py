@@ -228,7 +228,7 @@ def print_means(rows):
 def build(work):
     """The C program, with the proved loops."""
     print("proving and building the static library ..", flush=True)
-    subprocess.run([sys.executable, f"{TOP}/tools/build.py", "loop_bench"], stdout=subprocess.DEVNULL, check=True)
+    subprocess.run([f"{TOP}/tools/build", "loop_bench"], stdout=subprocess.DEVNULL, check=True)
     heap = os.path.dirname(run(["rt", "doc"]).decode().strip()) + "/c/liblibc_c.a"
     library = f"{TOP}/crates/loop_bench/out/libloop_bench.a"
     run(["gcc", "-std=c99", "-D_POSIX_C_SOURCE=199309L", "-O2", "-o", f"{work}/mixes", f"{TOP}/bench/mixes.c", library, heap])

@@ -35,7 +35,7 @@ work=$(mktemp -d)
 trap 'rm -rf "$work"' EXIT
 
 echo 'proving and building benchmarks ..'
-python3 tools/build.py benchmarks >"$work/log" 2>&1 || { cat "$work/log"; exit 1; }
+tools/build benchmarks >"$work/log" 2>&1 || { cat "$work/log"; exit 1; }
 BENCH='crates/benchmarks/out/benchmarks open'
 
 lock=
