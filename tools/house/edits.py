@@ -1,0 +1,50 @@
+"""The wrong bodies of each crate: whether each can be tried, and is named right.
+
+They are in must-fail/, which the gate tries, in more-edits/, which `make edits` tries, and in tested-edits/, which contracts admit
+and tests refuse, and which `make tested` tries.
+"""
+from house.findings import Finding
+
+IN_GATE, MORE, TESTED = FOLDERS = ("must-fail", "more-edits", "tested-edits")
+# What refuses an edit of tested-edits/.
+REFUSERS = ("test", "run")
+
+
+def why_bad(repository, crate, folder, name):
+    """Why an edit can't be applied, or nothing."""
+    texts, path, old, pairs = {}, None, None, 0
+    for line in repository.lines(f"crates/{crate}/{folder}/{name}.edit"):
+        kind, _, text = line.partition(":")
+        text = text[1:] if text.startswith(" ") else text
+        if kind == "file":
+            path = text
+            if f"crates/{crate}/{path}" not in repository.paths:
+                return f"there is no file {path}"
+            texts.setdefault(path, repository.text(f"crates/{crate}/{path}"))
+        elif kind == "old" and path:
+            old = text
+        elif kind == "new" and old:
+            if texts[path].count(old) != 1:
+                return f"its text is {texts[path].count(old)} times in {path}: {old}"
+            texts[path], old, pairs = texts[path].replace(old, text), None, pairs + 1
+        elif kind in REFUSERS and folder == TESTED:
+            if text.partition(" ")[0] not in repository.crates:
+                return f"there is no crate {text.partition(' ')[0]}"
+        elif line:
+            return f"a line isn't read: {line}"
+    return None if pairs and not old else "it has no pair of old and new"
+
+
+def check(repository):
+    """Edits that can't be applied, and names that two folders of a crate have."""
+    for crate in repository.crates:
+        seen = {}
+        for folder in FOLDERS:
+            for name in repository.edits(crate, folder):
+                path, key = f"crates/{crate}/{folder}/{name}.edit", f"{crate}/{name}"
+                why = why_bad(repository, crate, folder, name)
+                if why:
+                    yield Finding(path, 1, why, key)
+                if name in seen:
+                    yield Finding(path, 1, f"{key} is in two folders, here and in {seen[name]}/", key)
+                seen[name] = folder
