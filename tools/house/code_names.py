@@ -2,6 +2,8 @@
 import functools
 import re
 
+from house.edits import FOLDERS
+
 ITEM = re.compile(r"^\s*(?:pub(?:\([^)]*\))? )?(?:ghost )?(?:(?:const|unsafe|extern \"C\") )*"
                   r"(?:(fn|mod)|(struct|enum|trait)|type|const|static) (\w+)")
 IMPL = re.compile(r"^impl(?:<[^>]*>)? (?:!?([\w:]+)(?:<.*>)? for )?&?(?:mut )?(\w+)")
@@ -111,6 +113,7 @@ class Index:
         paths = [it for it in repository.files if it.startswith(SOURCES) and not it.endswith(".md") and "/fuzz-corpus/" not in it]
         paths += [it for it in repository.files if it.startswith("crates/") and it.endswith((".rt", ".antt", "/stdin", "/stdout"))]
         found = set(repository.crates) | self.kit
+        found.update(name for crate in repository.crates for folder in FOLDERS for name in repository.edits(crate, folder))
         for path in paths:
             found.update(re.split(r"\W+", repository.text(path)))
             found.update(re.split(r"\W+", path))
@@ -131,4 +134,5 @@ class Index:
             return None if last in self.members[owner] else f"{owner} has no {last}"
         if first in self.modules:
             return None if last in self.modules.get(owner, ()) or last in self.modules[first] else f"{owner} has no {last}"
-        return f"there is no {first}"
+        # A type of the toolchain's libraries, or one that only stands for another.
+        return None if first[:1].isupper() and first in self.words else f"there is no {first}"

@@ -19,7 +19,7 @@ BEFORE = r"(?:`(\w+)`(?: has|:|,) (?:only |all )?)?(?:(about|some) )?"
 AFTER = r"(?: (?:of|in) `(\w+)`)?"
 # What makes it a phrase about something else.
 PAST = re.compile(r"\b(?:had|was|were|with|after|before|once|of|in|at most|under|below|over|than|first|last|to|from|by|for|each) $")
-OTHERS = re.compile(r" (?:above|below|that|which|whose|of|in|as|for|each|were|was|had|with|to|from|where|left|a|are left)\b")
+OTHERS = re.compile(r",? (?:above|below|that|which|whose|of|in|as|for|each|were|was|had|with|to|from|where|including)\b")
 CRATE_NOUNS = {
     "must-fail edits": crate_counts.must_fail,
     "edits of the gate": crate_counts.in_gate,

@@ -3,8 +3,12 @@
 They are in must-fail/, which the gate tries, in more-edits/, which `make edits` tries, and in tested-edits/, which contracts admit
 and tests refuse, and which `make tested` tries.
 """
+import re
+
+from house import markdown
 from house.findings import Finding
 
+PROOFS, NAMED = "docs/PROOFS.md", re.compile(r"^(\w+)/(\w+)$")
 IN_GATE, MORE, TESTED = FOLDERS = ("must-fail", "more-edits", "tested-edits")
 # What refuses an edit of tested-edits/.
 REFUSERS = ("test", "run")
@@ -35,8 +39,20 @@ def why_bad(repository, crate, folder, name):
     return None if pairs and not old else "it has no pair of old and new"
 
 
+def named_in(repository, document):
+    """The edits that a document names as `crate/name`, with their lines."""
+    for line, span in markdown.spans(repository.text(document)):
+        found = NAMED.match(span)
+        if found and found[1] in repository.libraries:
+            yield line, found[1], found[2]
+
+
 def check(repository):
-    """Edits that can't be applied, and names that two folders of a crate have."""
+    """Edits that can't be applied, names that two folders of a crate have, and edits that the gate doesn't try and that docs/PROOFS.md
+    names as if it did."""
+    for line, crate, name in named_in(repository, PROOFS):
+        if name in repository.edits(crate, MORE):
+            yield Finding(PROOFS, line, f"the gate doesn't try {crate}/{name}, which is in {MORE}/", f"{crate}/{name}")
     for crate in repository.crates:
         seen = {}
         for folder in FOLDERS:

@@ -3,7 +3,8 @@
 # Each family with the words that the names of its crates are, or begin with if they end with `_`.
 FAMILIES = (
     ("libraries for C", ("coqetwal", "loop_bench")),
-    ("tests and benchmarks", ("test_parts", "storm_parts", "random_storms", "refusals", "row_benchmarks", "open_benchmarks", "benchmarks")),
+    ("tests and benchmarks", ("test_parts", "storm_parts", "random_storms", "refusals", "row_benchmarks", "open_benchmarks",
+                              "benchmarks")),
     ("names", ("names",)),
     ("apparmor_: flattened texts of AppArmor", ("apparmor_",)),
     ("rule_ and derived_: rules and their text", ("rule_", "derived_")),
