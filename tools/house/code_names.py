@@ -67,6 +67,13 @@ class Names:
         self.all.add(stem)
 
 
+def index_of(repository):
+    """The index of a repository, which is made once."""
+    if "index" not in repository.kept:
+        repository.kept["index"] = Index(repository)
+    return repository.kept["index"]
+
+
 class Index:
     """The names of all crates."""
 

@@ -1,4 +1,5 @@
 """What can be counted of a crate: lines, public functions, edits and tests."""
+import functools
 import re
 
 from house import definitions, edits
@@ -8,8 +9,13 @@ TEST = re.compile(r"^\s*#\[test\]", re.M)
 FUNCTION = re.compile(r"^\s*(?:pub(?:\([^)]*\))? )?(?:(?:const|unsafe) )*(?:extern \"C\" )?fn \w+", re.M)
 
 
+@functools.lru_cache(maxsize=None)
+def matches_in(text, pattern):
+    return len(pattern.findall(text))
+
+
 def matches(repository, crate, pattern):
-    return sum(len(pattern.findall(repository.text(it))) for it in repository.sources(crate))
+    return sum(matches_in(repository.text(it), pattern) for it in repository.sources(crate))
 
 
 def code(repository, crate):

@@ -2,6 +2,7 @@
 
 A crate with an entry too many is proved later, since it waits for that library, and again when that library changes.
 """
+import functools
 import re
 
 from house.findings import Finding
@@ -12,15 +13,17 @@ IN_DEFINITIONS = re.compile(r"Rattle\.([a-z][a-z_0-9]*)")
 COMMENT = re.compile(r"^[ \t]*(?://|--).*$", re.M)
 
 
+@functools.lru_cache(maxsize=None)
+def cited_in(text):
+    """The libraries that a text names, comments aside."""
+    code = COMMENT.sub("", text)
+    return {*IN_DEFINITIONS.findall(code), *(IN_CODE.findall(code) if "::" in code else ())}
+
+
 def cited(repository, crate):
-    """The libraries that the files of a crate name, comments aside."""
-    found = set()
-    for path in repository.files_of_crates[crate]:
-        if path.endswith((".rt", ".antt")):
-            text = COMMENT.sub("", repository.text(path))
-            found.update(IN_DEFINITIONS.findall(text))
-            found.update(IN_CODE.findall(text) if "::" in text else ())
-    return found
+    """The libraries that the files of a crate name."""
+    paths = [it for it in repository.files_of_crates[crate] if it.endswith((".rt", ".antt"))]
+    return {name for path in paths for name in cited_in(repository.text(path))}
 
 
 def check(repository):

@@ -26,7 +26,7 @@ class Reader:
 
     def __init__(self, repository):
         self.repository = repository
-        self.index = code_names.Index(repository)
+        self.index = code_names.index_of(repository)
         self.top_folders = {it.partition("/")[0] for it in repository.files if "/" in it}
         targets = re.findall(r"(?m)^([\w. -]+):(?!=)", repository.text("Makefile"))
         self.targets = {it for line in targets for it in line.split()}

@@ -1,5 +1,6 @@
 """The parts of documents in Markdown: headings, sections, paragraphs, code spans and links."""
 import collections
+import functools
 import re
 
 FENCE = re.compile(r"^\s*(```|~~~)")
@@ -11,14 +12,16 @@ LINK_TEXT = re.compile(r"\[((?:[^\[\]]|\[[^\]]*\])*)\](?:\([^()]*\))?")
 Heading = collections.namedtuple("Heading", "line level title")
 
 
+@functools.lru_cache(maxsize=None)
 def prose(text):
     """The lines with their numbers, but for those in fenced blocks."""
-    is_code = False
+    found, is_code = [], False
     for number, line in enumerate(text.split("\n"), 1):
         if FENCE.match(line):
             is_code = not is_code
         elif not is_code:
-            yield number, line
+            found.append((number, line))
+    return found
 
 
 def headings(text):
@@ -26,11 +29,13 @@ def headings(text):
     return [Heading(number, len(it[1]), it[2]) for number, it in found if it]
 
 
+@functools.lru_cache(maxsize=None)
 def spans(text):
     """The code spans outside of fenced blocks, with the numbers of their lines."""
     return [(number, it) for number, line in prose(text) for it in SPAN.findall(line)]
 
 
+@functools.lru_cache(maxsize=None)
 def links(text):
     """The targets of links, with the numbers of their lines."""
     return [(number, it) for number, line in prose(text) for it in LINK.findall(SPAN.sub("``", line))]

@@ -3,6 +3,7 @@
 A caller must meet these. The prover checks each call in Rattle; nothing checks callers from C. Private functions of a crate (also
 `pub(crate)`) aren't listed.
 """
+import functools
 import re
 
 from house import markdown
@@ -20,10 +21,11 @@ def libraries(repository):
     return [it for it in repository.libraries if not it.endswith("_tests") and f"crates/{it}/src/lib.rt" in repository.paths]
 
 
-def conditions_of(lines):
+@functools.lru_cache(maxsize=None)
+def conditions_of(text):
     """For each public function that has conditions: its name, after that of its type, and its clauses."""
     found, owner, name, in_trait = [], "", None, False
-    for line in lines:
+    for line in text.split("\n"):
         if line.startswith(("impl", "trait", "pub trait")):
             owner = next(filter(None, TYPE.match(line).groups()), "") if TYPE.match(line) else ""
             in_trait = line.startswith("pub trait")
@@ -43,7 +45,7 @@ def conditions_of(lines):
 
 def conditions(repository, crate):
     """The functions of a crate that have conditions, with their clauses."""
-    return [it for path in repository.sources(crate) for it in conditions_of(repository.lines(path))]
+    return [it for path in repository.sources(crate) for it in conditions_of(repository.text(path))]
 
 
 def rows_of(lines):

@@ -3,6 +3,7 @@
 The list tools/house/private-parts has the pairs of crates that do, the lower crate first, in groups, each below its reason: lines
 that begin with `#`.
 """
+import functools
 import re
 
 from house.findings import Finding
@@ -12,18 +13,22 @@ CITED = r"\b(?:Rattle\.)?(\w+)(?:\.{0}\.|::{1}::)([\w.]+?)(?=\.\{{|::|\s|$)"
 ABOUT_THREADS = re.compile(r"ThreadSafety$|TheSendSync$|TheKnot$|^Closures$")
 
 
+@functools.lru_cache(maxsize=None)
+def cited_in(text, folder):
+    """The crates and the modules of their folders that a text names."""
+    word = folder.rpartition("/")[2]
+    cited = re.compile(CITED.format(folder.replace("/", r"\."), folder.replace("/", "::")), re.M)
+    return cited.findall("\n".join(it for it in text.split("\n") if word in it)) if word in text else []
+
+
 def pairs_of(repository, *folders):
     """For each crate below and crate above the modules of the lower crate's folders that are cited."""
     crates, pairs = set(repository.crates), {}
     for folder in folders:
-        cited = re.compile(CITED.format(folder.replace("/", r"\."), folder.replace("/", "::")), re.M)
-        word = folder.rpartition("/")[2]
-        for crate in crates:
+        for crate in repository.crates:
             for path in repository.files_of_crates[crate]:
-                if not path.endswith((".antt", ".rt")):
-                    continue
-                lines = [it for it in repository.lines(path) if word in it]
-                for other, module in cited.findall("\n".join(lines)):
+                named = cited_in(repository.text(path), folder) if path.endswith((".antt", ".rt")) else ()
+                for other, module in named:
                     if other != crate and other in crates:
                         pairs.setdefault((other, crate), set()).add(module)
     return pairs

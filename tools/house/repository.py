@@ -11,6 +11,17 @@ class Repository:
     def __init__(self, top=TOP):
         self.top = top
         self.texts = {}
+        # What is kept of sources by those who read them all.
+        self.kept = {}
+
+    def changed(self, paths):
+        """The same repository after these files were written or removed; what was read and kept of others isn't read again."""
+        other = Repository(self.top)
+        other.texts = {path: text for path, text in self.texts.items() if path not in paths}
+        there = {it for it in paths if os.path.isfile(f"{self.top}/{it}")}
+        other.files = sorted({*self.files, *there} - (set(paths) - there))
+        other.kept = self.kept if all(it.endswith(".md") for it in paths) else {}
+        return other
 
     @functools.cached_property
     def ignored(self):

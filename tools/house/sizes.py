@@ -1,4 +1,5 @@
 """The sizes that the house keeps: of crates, bodies, lines and documents."""
+import functools
 import re
 
 from house import crate_counts
@@ -15,10 +16,11 @@ CODE = (".rt", ".antt", ".py", ".sh", ".c", ".cpp", ".h", ".rs")
 PROGRAM_FOLDERS = ("tools/", "bench/")
 
 
-def bodies_of(lines):
+@functools.lru_cache(maxsize=None)
+def bodies_of(text):
     """The functions of a file: name, line, and the lines between the braces of the body, which begin at the column of `fn`."""
-    name, place, indent, begin = None, 0, "", None
-    for number, line in enumerate(lines, 1):
+    found, name, place, indent, begin = [], None, 0, "", None
+    for number, line in enumerate(text.split("\n"), 1):
         head = FUNCTION.match(line)
         if head and begin is None:
             name, place, indent = head[2], number, head[1]
@@ -26,15 +28,16 @@ def bodies_of(lines):
         elif name and begin is None and line == f"{indent}{{":
             begin = number
         elif name and begin is not None and line == f"{indent}}}":
-            yield name, place, number - begin - 1
+            found.append((name, place, number - begin - 1))
             name, begin = None, None
+    return found
 
 
 def bodies(repository):
     """Bodies that are too long, tests' crates aside."""
     for crate in repository.libraries:
         for path in [] if is_for_tests(crate) else repository.sources(crate):
-            for name, line, length in bodies_of(repository.lines(path)):
+            for name, line, length in bodies_of(repository.text(path)):
                 if length > MOST_BODY:
                     yield Finding(path, line, f"the body of {name} has {length} lines, more than {MOST_BODY}", name)
 
@@ -42,6 +45,11 @@ def bodies(repository):
 def can_be_broken(line):
     """Whether a blank outside of strings is a place to break the line."""
     return len(" ".join(line.split('"')[::2]).split()) > 3
+
+
+@functools.lru_cache(maxsize=None)
+def longest(text):
+    return max(map(len, text.split("\n")))
 
 
 def is_code(repository, path):
@@ -55,7 +63,7 @@ def is_code(repository, path):
 def columns(repository):
     """Lines that are too long, but for those that are one word or one string."""
     for path in repository.files:
-        if is_code(repository, path) and len(max(repository.lines(path), key=len)) >= MOST_COLUMNS:
+        if is_code(repository, path) and longest(repository.text(path)) >= MOST_COLUMNS:
             for number, line in enumerate(repository.lines(path), 1):
                 if len(line) >= MOST_COLUMNS and can_be_broken(line):
                     yield Finding(path, number, f"the line has {len(line)} columns, {MOST_COLUMNS} or more", str(number))
