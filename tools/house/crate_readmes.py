@@ -2,7 +2,7 @@
 import re
 
 from house import markdown
-from house.families import is_for_tests
+from house.families import EXAMPLES, is_for_tests
 from house.findings import Finding
 
 BELOW = "From below"
@@ -47,7 +47,8 @@ def faults_of(repository, crate, path):
     if not markdown.plain(markdown.first_paragraph(text)).startswith(sentence):
         yield 1, f"it doesn't begin with the first sentence of {repository.root_file(crate)}: {sentence}"
     titles = {it.title for it in markdown.headings(text) if it.level == 2}
-    wanted = TEST_SECTIONS if is_for_tests(crate) and not titles.issuperset(SECTIONS) else SECTIONS
+    is_tested = is_for_tests(crate) or crate in EXAMPLES
+    wanted = TEST_SECTIONS if is_tested and not titles.issuperset(SECTIONS) else SECTIONS
     for title in wanted:
         if title not in titles:
             yield 1, f"there is no section `## {title}`"

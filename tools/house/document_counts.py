@@ -9,8 +9,9 @@ import fnmatch
 import functools
 import re
 from importlib.machinery import SourceFileLoader
+from importlib.util import module_from_spec, spec_from_loader
 
-from house import crate_counts, markdown, preconditions, private_parts
+from house import crate_counts, definitions, markdown, preconditions, private_parts
 from house.document_names import RECORDS
 from house.findings import Finding
 
@@ -36,13 +37,17 @@ CRATE_NOUNS = {
     "public functions": crate_counts.public_functions,
 }
 PHRASE = re.compile(f"{BEFORE}{NUMBER} ({'|'.join(sorted(CRATE_NOUNS, key=len, reverse=True))})\\b{AFTER}")
+# A row of a table of files of definitions, with their lines.
+FILE_ROW = re.compile(rf"^\| `([\w/]+\.antt)` \| {NUMBER} \|")
 TITLED = re.compile(rf"\b(definitions|proofs|code): {NUMBER} lines\b")
-WHOLE = re.compile(rf"{NUMBER} (crates|pairs of crates|commands|public functions that require|preconditions)\b")
+WHOLE = re.compile(rf"{NUMBER} (crates|pairs of crates|commands of the tour|public functions that require|preconditions)\b")
 
 
 def tour_commands(repository):
     """The commands of README and the tour that `make tour` runs and compares."""
-    tour = SourceFileLoader("tour", f"{repository.top}/tools/tour").load_module()
+    loader = SourceFileLoader("tour", f"{repository.top}/tools/tour")
+    tour = module_from_spec(spec_from_loader(loader.name, loader))
+    loader.exec_module(tour)
     return sum(len([it for it in tour.read_commands(repository.lines(file))[0] if it[0].split()[0] not in tour.NOT_RUN])
                for file in tour.FILES)
 
@@ -54,7 +59,7 @@ def required(repository):
 WHOLE_NOUNS = {
     "crates": lambda it: len(it.libraries),
     "pairs of crates": lambda it: len(private_parts.pairs_of(it, "proofs", "specs/inner")),
-    "commands": tour_commands,
+    "commands of the tour": tour_commands,
     "public functions that require": required,
     "preconditions": required,
 }
@@ -100,6 +105,10 @@ def faults_of(counter, home, line):
         actual = counter.of_crate(f"lines of {found[1]}", home)
         if differs(found[2], False, actual):
             yield found[0], f"{actual:,}"
+    for path, said in FILE_ROW.findall(line):
+        actual = definitions.count_lines(counter.repository.text(f"crates/{path}"))
+        if differs(said, False, actual):
+            yield f"{said} lines in {path}", f"{actual:,}"
     for found in WHOLE.finditer(line):
         if not is_other(line, found) and differs(found[1], False, counter.of_all(found[2])):
             yield found[0], f"{counter.of_all(found[2]):,}"

@@ -17,6 +17,7 @@ EDIT = re.compile(r"^([a-z]\w*)/(\w+)$")
 WORD = re.compile(r"^(?:[a-z][a-z0-9]*(?:_[a-z0-9]+)+|[A-Z][a-z0-9]+(?:[A-Z][a-z0-9]*)+|[A-Z]{3,}(?:_[A-Z0-9]+)+)(?:\(.*\))?$")
 PATH = re.compile(r"^(?:\./)?[\w.*/-]+(?:/[\w.*-]*)+$")
 IN_CRATES = ("src", "specs", "proofs", "must-fail", "more-edits", "tested-edits", "stdin", "stdout", "args")
+FILE = re.compile(r"^[\w-]+\.(?:antt|rt|md|py)$")
 OPTION = re.compile(r"^--([a-z][a-z-]*)")
 BUILT = ("out",)
 
@@ -27,16 +28,17 @@ class Reader:
     def __init__(self, repository):
         self.repository = repository
         self.index = code_names.index_of(repository)
+        self.base_names = {it.rpartition("/")[2] for it in repository.files}
         self.top_folders = {it.partition("/")[0] for it in repository.files if "/" in it}
         targets = re.findall(r"(?m)^([\w. -]+):(?!=)", repository.text("Makefile"))
         self.targets = {it for line in targets for it in line.split()}
         self.options = set(re.findall(r'"([a-z-]+)"', "".join(map(repository.text, repository.sources("trace_arguments")))))
         self.options |= {"help", "version"}
 
-    def faults(self, document, span):
+    def faults(self, document, span, before=()):
         """What is wrong with a span, perhaps several things."""
         words = span.split()
-        home = document.split("/")[1] if document.startswith("crates/") else None
+        home = self.homes(document, before)
         if len(words) > 1 or span.startswith(("make ", "./aa-trace")):
             yield from self.faults_of_command(words)
         elif ITEM.match(span):
@@ -45,8 +47,18 @@ class Reader:
                 yield f"`{span}`: {why}"
         elif "/" in span:
             yield from self.faults_of_path(span, home)
+        elif FILE.match(span) and span not in self.base_names and not self.index.kit.intersection(home):
+            yield f"`{span}`: there is no such file"
         elif WORD.match(span) and span.partition("(")[0] not in self.index.words:
             yield f"`{span}` is in no source"
+
+    def homes(self, document, before):
+        """The crates in whose folders a path may be: in the README of a crate this one, and those that spans before it on the line
+        name; in other documents any."""
+        if not document.startswith("crates/"):
+            return ["*"]
+        named = [it.partition("/")[0] for it in before]
+        return [document.split("/")[1], *(it for it in named if it in self.repository.libraries or it in self.index.kit)]
 
     def faults_of_path(self, span, home):
         """A file or an edit that isn't there."""
@@ -58,16 +70,14 @@ class Reader:
         elif PATH.match(span) and not self.is_path(span, home):
             yield f"`{span}`: there is no such file"
 
-    def is_path(self, span, home):
-        """Whether this is the path of a file or folder, or of none that the repository should have."""
+    def is_path(self, span, home=("*",)):
+        """Whether this is the path of a file or folder, perhaps of one of these crates, or of none that the repository should have."""
         path = re.sub(r"\b[A-Z]{4,}\b(?!\.md)", "*", span.removeprefix("./")).rstrip("/")
         first = path.partition("/")[0]
         if any(it in path.split("/") for it in BUILT):
             return True
-        if home and first in IN_CRATES:
-            return self.matches(f"crates/{home}/{path}")
         if first in IN_CRATES:
-            return self.matches(f"crates/*/{path}")
+            return any(it in self.index.kit or self.matches(f"crates/{it}/{path}") for it in home)
         if first in self.repository.libraries:
             return self.matches(f"crates/{path}")
         return first not in self.top_folders or self.matches(path)
@@ -89,7 +99,7 @@ class Reader:
         elif program in ("aa-trace", "./aa-trace"):
             yield from (f"aa-trace has no option {it}" for it in self.unknown(rest, self.options))
         elif program.startswith(("tools/", "bench/")):
-            if not self.is_path(program, None):
+            if not self.is_path(program):
                 yield f"`{program}`: there is no such file"
             else:
                 text = self.repository.text(program)
@@ -114,7 +124,9 @@ def check(repository):
         if any(fnmatch.fnmatch(document, it) for it in RECORDS):
             continue
         old = lines_of_old_names(repository, document)
+        last, before = 0, []
         for line, span in markdown.spans(repository.text(document)):
-            if line not in old:
-                for fault in reader.faults(document, span):
-                    yield Finding(document, line, fault, span)
+            before = before if line == last else []
+            for fault in reader.faults(document, span, before) if line not in old else ():
+                yield Finding(document, line, fault, span)
+            last, before = line, [*before, span]

@@ -22,6 +22,8 @@ ORDER = ("names", "apparmor_", "rule_", "import_", "tables", "tree", "rows", "po
          "libraries for C")
 TESTS = "tests and benchmarks"
 TEST_ENDINGS = ("_tests", "_cases")
+# Programs that are examples: tests run them.
+EXAMPLES = ("mediating_server",)
 
 
 def family_of(crate):
