@@ -11,8 +11,9 @@ VARIANT = re.compile(r"^    ([A-Z]\w*)(?: \{|[,({ ]|$)")
 FIELD = re.compile(r"^    (?:pub(?:\([^)]*\))? )?(\w+):")
 USE = re.compile(r"(?s)\bpub(?:\([^)]*\))? use ([^;]+);")
 DECLARED = re.compile(r"^\s*(?:(?:abbrev|pub|unfoldable|unfolding|record|data|private) )*([^\s:(){},.]+)(?: [^:]*)?:", re.M)
-# Where words of sources are, apart from crates.
+# Where words of sources are, apart from crates, and where names are that there needn't be.
 SOURCES = ("bench/", "completions/", "examples/", "include/", "man/", "tools/", "Makefile", "crates.txt", "HANDLES", "coqetwal.pc.in")
+NO_SOURCES = ("tools/house/allowed", "tools/house-check-test", "tools/fuzz-corpus/")
 
 
 class Names:
@@ -117,7 +118,7 @@ class Index:
     def words(self):
         """All words of sources."""
         repository = self.repository
-        paths = [it for it in repository.files if it.startswith(SOURCES) and not it.endswith(".md") and "/fuzz-corpus/" not in it]
+        paths = [it for it in repository.files if it.startswith(SOURCES) and not it.startswith(NO_SOURCES) and not it.endswith(".md")]
         paths += [it for it in repository.files if it.startswith("crates/") and it.endswith((".rt", ".antt", "/stdin", "/stdout"))]
         found = set(repository.crates) | self.kit
         found.update(name for crate in repository.crates for folder in FOLDERS for name in repository.edits(crate, folder))

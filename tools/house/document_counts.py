@@ -5,21 +5,19 @@ crate; or about the crate that goes with it: "`crate` has N tests", "`crate`: N 
 number after "about" or "some" may differ by a tenth. What is past, or about a part, is said in other words: "had N tests", "of N
 crates above", "N of the tests"; a phrase that can't be is in the list of what is allowed.
 """
-import fnmatch
 import functools
 import re
 from importlib.machinery import SourceFileLoader
 from importlib.util import module_from_spec, spec_from_loader
 
-from house import crate_counts, definitions, markdown, preconditions, private_parts
-from house.document_names import RECORDS
+from house import crate_counts, definitions, preconditions, private_parts, records
 from house.findings import Finding
 
 NUMBER = r"(?<![\w.,^/-])(\d{1,3}(?:,\d{3})+|\d+)"
 BEFORE = r"(?:`(\w+)`(?: has|:|,) (?:only |all )?)?(?:(about|some) )?"
 AFTER = r"(?: (?:of|in) `(\w+)`)?"
 # What makes it a phrase about something else.
-PAST = re.compile(r"\b(?:had|was|were|with|after|before|once|of|in|at most|under|below|over|than|first|last|to|from|by|for|each) $")
+PAST = re.compile(r"\b(?:had|was|were|with|after|before|once|in|at most|under|below|over|than|first|last|to|from|by|for|each) $")
 OTHERS = re.compile(r",? (?:above|below|that|which|whose|of|in|as|for|each|were|was|had|with|to|from|where|including)\b")
 CRATE_NOUNS = {
     "must-fail edits": crate_counts.must_fail,
@@ -114,21 +112,10 @@ def faults_of(counter, home, line):
             yield found[0], f"{counter.of_all(found[2]):,}"
 
 
-def without_records(repository, document):
-    """The lines of a document's prose, but for those that record what was measured, or what was released."""
-    left_out = set()
-    for heading in markdown.headings(repository.text(document)):
-        is_released = document == "CHANGELOG.md" and re.match(r"\d", heading.title) and "unreleased" not in heading.title
-        if is_released or (document == "CONTRIBUTING.md" and heading.title == "What the gate takes"):
-            left_out.update(number for number, _ in markdown.section(repository.text(document), heading.title))
-    return [it for it in markdown.prose(repository.text(document)) if it[0] not in left_out]
-
-
 def check(repository):
     counter = Counter(repository)
     for document in repository.documents:
-        if not any(fnmatch.fnmatch(document, it) for it in RECORDS):
-            home = document.split("/")[1] if document.startswith("crates/") else None
-            for number, line in without_records(repository, document):
-                for said, actual in faults_of(counter, home, line):
-                    yield Finding(document, number, f"it says {said}, and there are {actual}", said)
+        home = document.split("/")[1] if document.startswith("crates/") else None
+        for number, line in records.without(repository, document, records.MEASURED):
+            for said, actual in faults_of(counter, home, line):
+                yield Finding(document, number, f"it says {said}, and there are {actual}", said)

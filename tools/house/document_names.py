@@ -7,11 +7,9 @@ and `PlainTree`.
 import fnmatch
 import re
 
-from house import code_names, markdown
+from house import code_names, markdown, records
 from house.findings import Finding
 
-# Records of runs speak of names of their time.
-RECORDS = ("docs/PLANTS.md", "bench/results/*")
 ITEM = re.compile(r"^&?(?:mut )?([A-Za-z_]\w*(?:::(?:<[^>]*>|[A-Za-z_]\w*))+)(?:<.*>)?(?:\(.*\))?$")
 EDIT = re.compile(r"^([a-z]\w*)/(\w+)$")
 WORD = re.compile(r"^(?:[a-z][a-z0-9]*(?:_[a-z0-9]+)+|[A-Z][a-z0-9]+(?:[A-Z][a-z0-9]*)+|[A-Z]{3,}(?:_[A-Z0-9]+)+)(?:\(.*\))?$")
@@ -112,21 +110,11 @@ class Reader:
                 yield it
 
 
-def lines_of_old_names(repository, document):
-    """The numbers of the lines of the changelog that list names of before."""
-    lines = markdown.section(repository.text(document), "Renamed") if document == "CHANGELOG.md" else None
-    return {number for number, _ in lines or ()}
-
-
 def check(repository):
     reader = Reader(repository)
     for document in repository.documents:
-        if any(fnmatch.fnmatch(document, it) for it in RECORDS):
-            continue
-        old = lines_of_old_names(repository, document)
-        last, before = 0, []
-        for line, span in markdown.spans(repository.text(document)):
-            before = before if line == last else []
-            for fault in reader.faults(document, span, before) if line not in old else ():
-                yield Finding(document, line, fault, span)
-            last, before = line, [*before, span]
+        for number, line in records.without(repository, document, records.RENAMED):
+            spans = markdown.SPAN.findall(line)
+            for place, span in enumerate(spans):
+                for fault in reader.faults(document, span, spans[:place]):
+                    yield Finding(document, number, fault, span)

@@ -14,6 +14,14 @@ IN_GATE, MORE, TESTED = FOLDERS = ("must-fail", "more-edits", "tested-edits")
 REFUSERS = ("test", "run")
 
 
+def has_test(repository, crate, path):
+    """Whether a crate has this test: a function after `#[test]`, in the file of its module."""
+    *modules, name = path.split("::")
+    stem = "/".join(modules) or "lib"
+    test = re.compile(rf"#\[test\]\n(?:\s*(?:#|//).*\n)*\s*(?:pub )?fn {name}\b")
+    return any(test.search(repository.text(f"crates/{crate}/src/{it}.rt")) for it in (stem, f"{stem}/mod", "main"))
+
+
 def why_bad(repository, crate, folder, name):
     """Why an edit can't be applied, or nothing."""
     texts, path, old, pairs = {}, None, None, 0
@@ -32,8 +40,9 @@ def why_bad(repository, crate, folder, name):
                 return f"its text is {texts[path].count(old)} times in {path}: {old}"
             texts[path], old, pairs = texts[path].replace(old, text), None, pairs + 1
         elif kind in REFUSERS and folder == TESTED:
-            if text.partition(" ")[0] not in repository.crates:
-                return f"there is no crate {text.partition(' ')[0]}"
+            test = text.partition(" ")
+            if test[0] not in repository.crates or kind == "test" and not has_test(repository, test[0], test[2]):
+                return f"there is no crate or no test {text}"
         elif line:
             return f"a line isn't read: {line}"
     return None if pairs and not old else "it has no pair of old and new"

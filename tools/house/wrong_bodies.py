@@ -21,14 +21,6 @@ def entries(repository):
     return found
 
 
-def has_test(repository, crate, path):
-    """Whether a crate has this test: a function after `#[test]`, in the file of its module."""
-    *modules, name = path.split("::")
-    stem = "/".join(modules) or "lib"
-    test = re.compile(rf"#\[test\]\n(?:\s*(?:#|//).*\n)*\s*(?:pub )?fn {name}\b")
-    return any(test.search(repository.text(f"crates/{crate}/src/{it}.rt")) for it in (stem, f"{stem}/mod", "main"))
-
-
 def why_not_tried(repository, edit, folder):
     """Why an edit isn't tried as it should be, or None."""
     crate, _, name = edit.partition("/")
@@ -43,7 +35,7 @@ def why_not_tried(repository, edit, folder):
 def why_untested(repository, test, edit):
     """Why a test doesn't show what it should, or None."""
     crate, _, path = test.partition("/")
-    if crate not in repository.libraries or not has_test(repository, crate, path):
+    if crate not in repository.libraries or not edits.has_test(repository, crate, path):
         return f"there is no test {test}"
     if not edit:
         return None
