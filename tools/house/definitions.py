@@ -5,10 +5,13 @@ and proofs, and without specs/laws/, where all is proved. Blank lines, comments 
 """
 import re
 
+from house import markdown
 from house.findings import Finding
 
 # The function whose definitions are read as a whole, and how many lines these may have.
 CRATE, FUNCTION, MOST = "path_session", "Session::try_open", 900
+PROOFS = "docs/PROOFS.md"
+ROW = re.compile(r"^\| (?:`([\w/]+\.antt)`|in all) \| ([\d,]+) \|")
 NO_DEFINITION = re.compile(r"\s*(--.*|(pub )?(mod|use) .*)?$")
 IMPORT = re.compile(r"\s*(?:ghost |pub )?use (?P<module>Rattle(?:\.\w+)+)(?:\.\{(?P<names>.*)\}| as (?P<alias>\w+));?$")
 # In code the names of an import may be on lines of their own.
@@ -88,10 +91,24 @@ def cited_by(repository, crate, function):
     return [file_of(repository, it) for it in order], types
 
 
+def rows_of(lines):
+    """The rows of tables of files of definitions: the line's number, the file and its number of lines; in a last row that sums them
+    up, None in place of a file."""
+    for number, line in lines:
+        found = ROW.match(line)
+        if found:
+            yield number, f"crates/{found[1]}" if found[1] else None, int(found[2].replace(",", ""))
+
+
 def check(repository):
-    """The contract of an open cites no more definitions than one can read."""
+    """The contract of an open cites no more definitions than one can read, and the document on proofs lists their files."""
     cited = cited_by(repository, CRATE, FUNCTION)
     lines = lines_of(repository, cited[0]) if cited else 0
     if not cited or lines > MOST:
         what = f"its contract cites {lines} lines of definitions, more than {MOST}" if cited else "there is no such function"
         yield Finding(f"crates/{CRATE}/src", 1, f"{FUNCTION}: {what}", FUNCTION)
+    listed = {path for _, path, _ in rows_of(markdown.prose(repository.text(PROOFS)))}
+    missing = [it for it in cited[0] if it not in listed] if cited else []
+    if missing:
+        what = f"no table of definitions has these files, which {FUNCTION} cites: {', '.join(missing)}"
+        yield Finding(PROOFS, 1, what, FUNCTION)

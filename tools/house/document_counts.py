@@ -35,8 +35,6 @@ CRATE_NOUNS = {
     "public functions": crate_counts.public_functions,
 }
 PHRASE = re.compile(f"{BEFORE}{NUMBER} ({'|'.join(sorted(CRATE_NOUNS, key=len, reverse=True))})\\b{AFTER}")
-# A row of a table of files of definitions, with their lines.
-FILE_ROW = re.compile(rf"^\| `([\w/]+\.antt)` \| {NUMBER} \|")
 TITLED = re.compile(rf"\b(definitions|proofs|code): {NUMBER} lines\b")
 WHOLE = re.compile(rf"{NUMBER} (crates|pairs of crates|commands of the tour|public functions that require|preconditions)\b")
 
@@ -103,19 +101,29 @@ def faults_of(counter, home, line):
         actual = counter.of_crate(f"lines of {found[1]}", home)
         if differs(found[2], False, actual):
             yield found[0], f"{actual:,}"
-    for path, said in FILE_ROW.findall(line):
-        actual = definitions.count_lines(counter.repository.text(f"crates/{path}"))
-        if differs(said, False, actual):
-            yield f"{said} lines in {path}", f"{actual:,}"
     for found in WHOLE.finditer(line):
         if not is_other(line, found) and differs(found[1], False, counter.of_all(found[2])):
             yield found[0], f"{counter.of_all(found[2]):,}"
 
 
+def faults_of_tables(repository, lines):
+    """The rows of tables of files of definitions that say another number of lines, with the line and the actual number."""
+    together, last = 0, 0
+    for number, path, said in definitions.rows_of(lines):
+        together, last = together if number == last + 1 else 0, number
+        actual = definitions.count_lines(repository.text(path)) if path else together
+        together += actual if path else 0
+        if said != actual:
+            yield number, f"{said:,} lines in {path or 'all these files'}", f"{actual:,}"
+
+
 def check(repository):
     counter = Counter(repository)
     for document in repository.documents:
+        lines = records.without(repository, document, records.MEASURED)
+        for number, said, actual in faults_of_tables(repository, lines):
+            yield Finding(document, number, f"it says {said}, and there are {actual}", said)
         home = document.split("/")[1] if document.startswith("crates/") else None
-        for number, line in records.without(repository, document, records.MEASURED):
+        for number, line in lines:
             for said, actual in faults_of(counter, home, line):
                 yield Finding(document, number, f"it says {said}, and there are {actual}", said)

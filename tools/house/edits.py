@@ -8,7 +8,8 @@ import re
 from house import markdown
 from house.findings import Finding
 
-PROOFS, NAMED = "docs/PROOFS.md", re.compile(r"^(\w+)/(\w+)$")
+# The documents that name edits as `crate/name`, as those that are tried.
+DOCUMENTS, NAMED = ("docs/PROOFS.md", "docs/WRONG-BODIES.md"), re.compile(r"^(\w+)/(\w+)$")
 IN_GATE, MORE, TESTED = FOLDERS = ("must-fail", "more-edits", "tested-edits")
 # What refuses an edit of tested-edits/.
 REFUSERS = ("test", "run")
@@ -48,20 +49,21 @@ def why_bad(repository, crate, folder, name):
     return None if pairs and not old else "it has no pair of old and new"
 
 
-def named_in(repository, document):
-    """The edits that a document names as `crate/name`, with their lines."""
-    for line, span in markdown.spans(repository.text(document)):
-        found = NAMED.match(span)
-        if found and found[1] in repository.libraries:
-            yield line, found[1], found[2]
+def named(repository):
+    """The edits that documents name as `crate/name`, with the document and the line."""
+    for document in DOCUMENTS:
+        for line, span in markdown.spans(repository.text(document)):
+            found = NAMED.match(span)
+            if found and found[1] in repository.libraries:
+                yield document, line, found[1], found[2]
 
 
 def check(repository):
-    """Edits that can't be applied, names that two folders of a crate have, and edits that the gate doesn't try and that docs/PROOFS.md
-    names as if it did."""
-    for line, crate, name in named_in(repository, PROOFS):
+    """Edits that can't be applied, names that two folders of a crate have, and edits that the gate doesn't try and that documents name
+    as if it did."""
+    for document, line, crate, name in named(repository):
         if name in repository.edits(crate, MORE):
-            yield Finding(PROOFS, line, f"the gate doesn't try {crate}/{name}, which is in {MORE}/", f"{crate}/{name}")
+            yield Finding(document, line, f"the gate doesn't try {crate}/{name}, which is in {MORE}/", f"{crate}/{name}")
     for crate in repository.crates:
         seen = {}
         for folder in FOLDERS:

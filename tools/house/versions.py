@@ -42,4 +42,4 @@ def other_logic(repository):
         return None
     said = subprocess.run(["rt", "version"], stdout=subprocess.PIPE, stderr=subprocess.DEVNULL, text=True, check=False).stdout
     found = LOGIC.search(said)
-    return found[1] if found and f"logic `{found[1]}`" not in repository.text("README.md") else None
+    return found[1] if found and found[1] not in repository.text("README.md") else None
