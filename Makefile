@@ -1,6 +1,8 @@
 # make run        builds the program without a proof, in about two minutes, and runs it on the six cases of examples/demo
 # make            proves the program and builds it, as ./aa-trace
-# make test       the gate: every proof from nothing, must-fail edits, tests, programs
+# make test       the gate: what tools/house-check checks, every proof from nothing, must-fail edits, tests, programs
+# make house      checks the documents, crates.txt, the sizes and the lists of wrong bodies without a proof, in some seconds, and tests
+#                 that the checks find planted faults
 # make bench      prints times: large inputs, each with the ratio to half the size or to another input; compiling profiles;
 #                 hostile input of each reader; the loop that runs names through a table, and many names side by side, next to
 #                 loops in C; images with chains of defaults, next to those without; names judged from C; plans and walks over a
@@ -39,7 +41,7 @@ LIBRARY := crates/coqetwal/out/libcoqetwal.a
 LIBRARY_CRATES := coqetwal $(shell sed -n 's/^coqetwal staticlib: *//p' crates.txt)
 LIBRARY_SOURCES := crates.txt HANDLES $(filter $(addprefix crates/,$(addsuffix /%,$(LIBRARY_CRATES))),$(SOURCES))
 
-.PHONY: all run test tour bench calls embed refusals storm serve drawn fuzz edits tested reproduce install uninstall help need-rt
+.PHONY: all run test house tour bench calls embed refusals storm serve drawn fuzz edits tested reproduce install uninstall help need-rt
 # Each recipe takes all processors, and two that prove the same crates would disturb each other.
 .NOTPARALLEL:
 
@@ -53,24 +55,26 @@ need-rt:
 # What is built needs no rt: it can be installed without one.
 aa-trace: $(SOURCES)
 	@:$(NEED_RT)
-	@python3 tools/build.py
+	@tools/build
 
 $(LIBRARY): $(LIBRARY_SOURCES)
 	@:$(NEED_RT)
-	@python3 tools/build.py coqetwal
+	@tools/build coqetwal
 	@touch $@
 
 run: need-rt
 	@tools/demo
 
 test: need-rt
-	@tools/version-check
-	@python3 tools/definitions --cited path_session Session::try_open --most 900 >/dev/null
-	@tools/cited-lemmas --most 30 >/dev/null
+	@tools/house-check
 	rt ci
 
+house:
+	@tools/house-check
+	@tools/house-check-test
+
 tour: aa-trace
-	python3 tools/tour
+	tools/tour
 
 bench: aa-trace
 	bench/run
@@ -91,27 +95,27 @@ bench: aa-trace
 
 calls: aa-trace $(LIBRARY)
 	tools/batch-loop
-	python3 tools/calls.py
+	tools/calls
 
 embed: aa-trace $(LIBRARY)
-	sh tools/embed.sh
+	tools/embed
 
 refusals: aa-trace
-	sh tools/refuse-allocations.sh
+	tools/refuse-allocations
 
 storm: aa-trace
-	sh tools/storm.sh
-	sh tools/random-storms.sh
+	tools/storm
+	tools/random-storms
 
 serve: need-rt
-	sh tools/serve-example.sh
+	tools/serve-example
 
 drawn: need-rt
 	tools/drawn-changes
 	tools/drawn-scripts
 
 fuzz: aa-trace
-	python3 tools/fuzz --cases $(N) --seed $(SEED)
+	tools/fuzz --cases $(N) --seed $(SEED)
 
 edits: need-rt
 	tools/more-edits --anew
@@ -124,10 +128,10 @@ reproduce: aa-trace $(LIBRARY)
 	@cd $(dir $(LIBRARY)) && sha256sum $(notdir $(LIBRARY))
 
 install: aa-trace $(LIBRARY)
-	@sh tools/install.sh
+	@tools/install
 
 uninstall:
-	@sh tools/install.sh uninstall
+	@tools/install uninstall
 
 help:
 	@sed -n '/^#/!q; s/^# \{0,1\}//p' $(firstword $(MAKEFILE_LIST))

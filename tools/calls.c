@@ -1,4 +1,4 @@
-/* Calls the static library as a program in C would, for tools/calls.py, which compares what it prints with ./aa-trace.
+/* Calls the static library as a program in C would, for tools/calls, which compares what it prints with ./aa-trace.
  *
  *     calls check IMAGE...         what `aa-trace check` prints for each image
  *     calls judge IMAGE QUERIES    a line for each query: verdict, rule, missing, steps

@@ -1,6 +1,6 @@
 """Reads flattened AppArmor text (that of `apparmor_parser -p`) just well enough to count its rules and to draw names from them.
 
-Made for tools/survey.sh and tools/against-apparmor, so that what they say about `aa-trace import` doesn't depend on it. It assumes
+Made for tools/survey and tools/against-apparmor, so that what they say about `aa-trace import` doesn't depend on it. It assumes
 that the text is valid: apparmor_parser has accepted it.
 """
 
