@@ -14,7 +14,7 @@ def run(words, given=None):
 def build(name, work):
     """Compiles bench/NAME.c with the library, to a program of that name in a folder."""
     print("proving and building the static library ..", flush=True)
-    subprocess.run([sys.executable, f"{TOP}/tools/build.py", "loop_bench"], stdout=subprocess.DEVNULL, check=True)
+    subprocess.run([f"{TOP}/tools/build", "loop_bench"], stdout=subprocess.DEVNULL, check=True)
     # The calls of malloc and free that the library makes.
     heap = os.path.dirname(run(["rt", "doc"]).decode().strip()) + "/c/liblibc_c.a"
     library = f"{TOP}/crates/loop_bench/out/libloop_bench.a"

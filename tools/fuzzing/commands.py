@@ -1,4 +1,4 @@
-"""What each command of the program writes (docs/RULES.md, "The program"), as the second implementation answers it."""
+"""What each command of the program writes (docs/RULES-PROGRAM.md), as the second implementation answers it."""
 import dataclasses
 
 import events

@@ -1,4 +1,5 @@
-"""Scripts of events (docs/RULES.md, "Scripts of events"), and how many words of a row a change sets ("The tree as a row of words")."""
+"""Scripts of events (docs/RULES-TREE.md, "Scripts of events"), and how many words of a row a change sets ("The tree as a row of
+words")."""
 import dataclasses
 import enum
 

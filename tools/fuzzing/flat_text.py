@@ -1,4 +1,4 @@
-"""Flattened texts: cut into profiles, rules, statements and variables (docs/RULES.md, "The flattened text")."""
+"""Flattened texts: cut into profiles, rules, statements and variables (docs/RULES-PROGRAM.md, "The flattened text")."""
 import dataclasses
 import re
 

@@ -1,4 +1,4 @@
-"""Tables and images (docs/RULES.md, "Tables" and "Images"): those that the program makes, and the faults of any bytes."""
+"""Tables and images (docs/RULES-LANGUAGE.md, "Tables" and "Images"): those that the program makes, and the faults of any bytes."""
 import dataclasses
 import itertools
 import operator

@@ -1,4 +1,4 @@
-"""Imports: what becomes of a flattened text, and the account (docs/RULES.md, "Imports")."""
+"""Imports: what becomes of a flattened text, and the account (docs/RULES-PROGRAM.md, "Imports")."""
 import contextlib
 import dataclasses
 import functools

@@ -1,4 +1,4 @@
-"""Scripts of `run` and `test` (docs/RULES.md, "Scripts" and "Scripts that are tested")."""
+"""Scripts of `run` and `test` (docs/RULES-TREE.md, "Scripts" and "Scripts that are tested")."""
 import dataclasses
 import errno
 import functools

@@ -1,4 +1,4 @@
-"""Profile texts: what docs/RULES.md ("The profile text") says of reading them, of their faults, and of canonical text."""
+"""Profile texts: what docs/RULES-LANGUAGE.md ("The profile text") says of reading them, of their faults, and of canonical text."""
 import dataclasses
 import enum
 import re

@@ -1,4 +1,4 @@
-"""Paths, and the tree with its walks, names and changes (docs/RULES.md, "Paths" and "The tree")."""
+"""Paths, and the tree with its walks, names and changes (docs/RULES-TREE.md, "Paths" and "The tree")."""
 import dataclasses
 import enum
 import errno

@@ -1,4 +1,5 @@
-"""Verdicts: what a path matches, the least hits of a name, and the automaton of a profile (docs/RULES.md, "What a path matches" and
+"""Verdicts: what a path matches, the least hits of a name, and the automaton of a profile (docs/RULES-LANGUAGE.md, "What a path
+matches" and
 "The verdict"). A set of bytes is a number of 256 bits."""
 import dataclasses
 import functools

@@ -1,12 +1,13 @@
 """All checks by their names, and running them."""
-from house import (crate_readmes, definitions, dependencies, document_counts, document_links, document_names, edits, preconditions,
-                   private_parts, quotes, sizes, tool_names, versions, wrong_bodies)
+from house import (crate_readmes, definitions, dependencies, document_counts, document_links, document_names, edits, families,
+                   preconditions, private_parts, quotes, sizes, tool_names, versions, wrong_bodies)
 from house.findings import without_allowed
 from house.repository import Repository
 
 CHECKS = {
     "readmes": (crate_readmes.check, "each crate has a README with its sections, which begins as its code does"),
     "dependencies": (dependencies.check, "crates.txt lists for each crate what it cites, and nothing else"),
+    "families": (families.check, "docs/ARCHITECTURE.md has the families of crates.txt, each with its crates"),
     "names": (document_names.check, "what documents name in backquotes is there"),
     "links": (document_links.check, "links of documents lead to a file and a heading"),
     "counts": (document_counts.check, "numbers in documents are those that can be counted"),

@@ -47,7 +47,7 @@ def faults_of(repository, crate, path):
     if not markdown.plain(markdown.first_paragraph(text)).startswith(sentence):
         yield 1, f"it doesn't begin with the first sentence of {repository.root_file(crate)}: {sentence}"
     titles = {it.title for it in markdown.headings(text) if it.level == 2}
-    is_tested = is_for_tests(crate) or crate in EXAMPLES
+    is_tested = is_for_tests(repository, crate) or crate in EXAMPLES
     wanted = TEST_SECTIONS if is_tested and not titles.issuperset(SECTIONS) else SECTIONS
     for title in wanted:
         if title not in titles:

@@ -1,49 +1,53 @@
-"""The families of crates, in the order of crates.txt, and which crates are for tests and benchmarks."""
+"""The families of crates: the headings of crates.txt, each with the crates below it."""
+import re
 
-# Each family with the words that the names of its crates are, or begin with if they end with `_`.
-FAMILIES = (
-    ("libraries for C", ("coqetwal", "loop_bench")),
-    ("tests and benchmarks", ("test_parts", "storm_parts", "random_storms", "refusals", "row_benchmarks", "open_benchmarks",
-                              "benchmarks")),
-    ("names", ("names",)),
-    ("apparmor_: flattened texts of AppArmor", ("apparmor_",)),
-    ("rule_ and derived_: rules and their text", ("rule_", "derived_")),
-    ("import_: imports", ("import_",)),
-    ("rows", ("row_index", "row_rule", "tree_row", "row_tally", "row_plan", "dentry_cache")),
-    ("events", ("event_machine", "row_keeper", "open_session", "interleaving_core")),
-    ("tables, automata and questions", ("tables", "table_", "image_", "automaton_", "glob_automaton", "matcher", "profile_questions",
-                                        "question_answers")),
-    ("tree", ("directory_tree", "path_lookup", "change_checks", "plain_tree", "path_walk")),
-    ("policy and mediation", ("mediation", "profile_registry", "justification", "verdict_cache", "kept_verdicts")),
-    ("sessions", ("path_session", "guarded_row", "path_guard", "path_storm", "script_bench", "mediating_server")),
-    ("trace_: the program", ("trace_", "named_texts", "answer_json")),
-)
-ORDER = ("names", "apparmor_", "rule_", "import_", "tables", "tree", "rows", "policy", "sessions", "events", "trace_", "tests",
-         "libraries for C")
-TESTS = "tests and benchmarks"
-TEST_ENDINGS = ("_tests", "_cases")
+from house import markdown
+from house.findings import Finding
+
+FILE = "crates.txt"
+DOCUMENT = "docs/ARCHITECTURE.md"
+TESTS = "tests, storms and benches"
 # Programs that are examples: tests run them.
 EXAMPLES = ("mediating_server",)
+HEADING = re.compile(r"^# ([^:]+)$")
+ROW = re.compile(r"^\| ([^|]+?) \| ([^|]+?) \|")
 
 
-def family_of(crate):
-    """The family of a crate, or None."""
-    if crate.endswith(TEST_ENDINGS):
-        return TESTS
-    for family, words in FAMILIES:
-        if any(crate == it or it.endswith("_") and crate.startswith(it) for it in words):
-            return family
-    return None
-
-
-def is_for_tests(crate):
-    """Whether a crate is of tests, of parts of them, or of benchmarks."""
-    return family_of(crate) == TESTS or crate == "loop_bench"
-
-
-def by_family(crates):
-    """The families in order, each with its crates."""
-    found = {family: [] for it in ORDER for family, _ in FAMILIES if family.startswith(it)}
-    for crate in crates:
-        found.setdefault(family_of(crate) or "no family", []).append(crate)
+def by_family(repository):
+    """The families in their order, each with its crates."""
+    found, family = {}, "no family"
+    for line in repository.lines(FILE):
+        heading = HEADING.match(line)
+        if heading:
+            family = heading[1]
+            found[family] = []
+        elif ":" in line and not line.startswith("#"):
+            found.setdefault(family, []).append(line.replace(":", " ").split()[0])
     return found
+
+
+def is_for_tests(repository, crate):
+    """Whether a crate is of tests, of parts of them, or of benchmarks."""
+    return crate in by_family(repository).get(TESTS, [])
+
+
+def listed(repository):
+    """The rows of the table of families: their lines, titles, and what is in the second column."""
+    rows = [(number, ROW.match(line)) for number, line in markdown.section(repository.text(DOCUMENT), "Families") or []]
+    return [(number, row[1], row[2]) for number, row in rows if row and row[1] not in ("family", "---")]
+
+
+def check(repository):
+    """The table of families has those of crates.txt, in their order, each with its crates."""
+    families, rows = by_family(repository), listed(repository)
+    titles = [title for _, title, _ in rows]
+    if titles != list(families):
+        yield Finding(DOCUMENT, rows[0][0] if rows else 1, f"the families aren't those of {FILE}: {', '.join(titles)}", "families")
+        return
+    for number, title, cell in rows:
+        crates = re.findall(r"`(\w+)`", cell)
+        begins = tuple(it for it in crates if it.endswith("_"))
+        left = [it for it in families[title] if it not in crates and not (begins and it.startswith(begins))]
+        others = [it for it in crates if it not in families[title] and it not in begins]
+        if title != TESTS and (left or others):
+            yield Finding(DOCUMENT, number, f"the crates of {title} are others: {' '.join(left + others)}", title)

@@ -36,7 +36,7 @@ def bodies_of(text):
 def bodies(repository):
     """Bodies that are too long, tests' crates aside."""
     for crate in repository.libraries:
-        for path in [] if is_for_tests(crate) else repository.sources(crate):
+        for path in [] if is_for_tests(repository, crate) else repository.sources(crate):
             for name, line, length in bodies_of(repository.text(path)):
                 if length > MOST_BODY:
                     yield Finding(path, line, f"the body of {name} has {length} lines, more than {MOST_BODY}", name)
