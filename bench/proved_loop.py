@@ -1,7 +1,6 @@
 """Programs in C that call the proved loops, which the static library crates/loop_bench exports."""
 import os
 import subprocess
-import sys
 
 TOP = os.path.dirname(os.path.dirname(os.path.abspath(__file__)))
 
