@@ -13,6 +13,8 @@ mod profiles;
 #[cfg(test)]
 mod same_verdicts;
 #[cfg(test)]
+mod strangers;
+#[cfg(test)]
 mod targets;
 #[cfg(test)]
 mod worked;

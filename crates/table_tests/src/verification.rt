@@ -8,7 +8,6 @@ use table_verifier::{LookUps, State, Steps, VerifiedTable, tables_in_bounds_run,
 use test_parts::{fault_of, put, verified};
 
 mod altered;
-mod chains;
 mod runs;
 mod shapes;
 

@@ -1,9 +1,13 @@
 //! Strangers' images whose defaults lead from state to state: up and down in a chain, in a circle, into a circle, in pairs, and each
 //! to itself. No state has a depth: for one byte a default is followed once, however the defaults go on from there.
-use super::*;
+use std::alloc::Global;
+use std::process::Abort;
+use std::test::Fail;
 use table_batches::{are_offsets, run_names, run_names_by_image};
 use table_image::from_bytes;
-use table_verifier::{VerifiedImage, run, run_image, verify_image};
+use table_verifier::{
+    LookUps, State, Steps, VerifiedImage, VerifiedTable, run, run_image, verify, verify_image,
+};
 
 // How the defaults of the states follow one another.
 #[derive(Clone, Copy, Debug)]
