@@ -8,14 +8,14 @@
  *     if (answer.verdict == COQETWAL_ALLOWED) ...
  *     coqetwal_free(table);
  *
- * Link with -lcoqetwal, which is built for processors of the level x86-64-v2; docs/EMBEDDING.md has the commands for C, C++
- * and Rust.
+ * Link with -lcoqetwal, which is built for processors of the level x86-64-v2; docs/EMBEDDING.md has the commands for C, C++,
+ * Rust and Python.
  *
  * The first part of this file declares the functions of the library. Each is proved to meet the contract in its source
  * (crates/coqetwal). Nothing compares these declarations with that source, and only the caller can make sure that a pointer
  * points to as much as the length after it says. They allocate no memory, and change nothing but what they are given to
- * write. The second part, small C functions over them, isn't proved: they copy an image to memory of their own, and accept
- * null pointers. */
+ * write. The second part, small C functions over them, isn't proved: they copy an image to memory of their own, and answer
+ * null pointers. A program that includes this file has those compiled into it; the shared library exports them, too. */
 #ifndef COQETWAL_H
 #define COQETWAL_H
 
@@ -27,8 +27,13 @@
 #define COQETWAL_VERSION "0.1.0"
 
 /* The number of this interface: it grows when a number gets a meaning that it hadn't. 2 has COQETWAL_APPEND, before which no number
- * was defined. */
-#define COQETWAL_INTERFACE 2
+ * was defined; 3 has COQETWAL_NULL. */
+#define COQETWAL_INTERFACE 3
+
+/* How the functions of the second part are defined. library/coqetwal.c, which is compiled into the shared library, says otherwise. */
+#ifndef COQETWAL_FUNCTION
+#define COQETWAL_FUNCTION static inline
+#endif
 
 #ifdef __cplusplus
 extern "C" {
@@ -48,7 +53,7 @@ enum coqetwal_permission {
 
 /* Verdicts. Cleared memory reads as COQETWAL_NO_ANSWER. */
 enum coqetwal_verdict {
-    /* Nothing was judged: nothing was asked, or something that isn't a permission, or there is no table. */
+    /* Nothing was judged: nothing was asked, or something that isn't a permission, or there is no table, or no name. */
     COQETWAL_NO_ANSWER = 0,
     COQETWAL_ALLOWED = 1,
     /* A deny rule forbids something that was asked. */
@@ -96,7 +101,9 @@ enum coqetwal_fault_number {
     /* coqetwal_load was out of memory; this says nothing about the image */
     COQETWAL_NO_MEMORY = 11,
     /* the depth of a state is over the image's bound, or over 0 and not over that of its default; place: the state */
-    COQETWAL_DEPTH = 12
+    COQETWAL_DEPTH = 12,
+    /* coqetwal_load was given a null pointer in place of the image, with a length other than 0, or in place of the table */
+    COQETWAL_NULL = 13
 };
 
 struct coqetwal_fault {
@@ -142,13 +149,21 @@ struct coqetwal_counts coqetwal_image_counts(const uint8_t *image, size_t image_
  * time, each with answers of its own.
  *
  * Required of the caller, for each of them: a table came from coqetwal_load and wasn't freed, or it is null; then names have
- * no answer and the counts are 0. An image, a name or the text of names has as many bytes as the length after it says; if that
- * is 0, the pointer may be null. Other pointers aren't null, unless stated. Nobody changes what a call reads while it runs. */
+ * no answer and the counts are 0. Any other pointer that isn't null points to as much as is said of it: an image, a name or the
+ * text of names has as many bytes as the length after it says. Nobody changes what a call reads while it runs.
+ *
+ * Any pointer may be null. An image, a name or a text of names of length 0 is then empty; with another length it is missing, and
+ * a missing image is refused as COQETWAL_NULL, and a missing name, or each name of a missing text, has no answer. */
 
 typedef struct coqetwal_table {
     size_t length;
     /* The image follows. */
 } coqetwal_table;
+
+/* Whether a pointer to bytes is null though there should be some: there is nothing that could be read. */
+static inline int coqetwal_is_missing(const void *text, size_t length) {
+    return !text && length;
+}
 
 /* Where the bytes of a text are: never null. */
 static inline const uint8_t *coqetwal_bytes(const void *text) {
@@ -156,68 +171,89 @@ static inline const uint8_t *coqetwal_bytes(const void *text) {
 }
 
 /* Where a table's image is. */
-static inline const uint8_t *coqetwal_image(const coqetwal_table *table) {
+COQETWAL_FUNCTION const uint8_t *coqetwal_image(const coqetwal_table *table) {
     return table ? (const uint8_t *)(table + 1) : coqetwal_bytes(NULL);
 }
 
-static inline size_t coqetwal_image_length(const coqetwal_table *table) {
+COQETWAL_FUNCTION size_t coqetwal_image_length(const coqetwal_table *table) {
     return table ? table->length : 0;
 }
 
-/* Copies an image and verifies the copy. The result is 0, and *table is the table; or it is the number of the fault, and *table
- * is null. `fault` may be null; if it isn't, *fault is the fault, 0 for an accepted image. It allocates with malloc: the size
- * of the image, and a little more. */
-static inline int coqetwal_load(const void *image, size_t length, coqetwal_table **table, struct coqetwal_fault *fault) {
-    struct coqetwal_fault found = {COQETWAL_NO_MEMORY, 0};
+/* A copy of an image, which isn't missing; null if memory is refused. */
+static inline coqetwal_table *coqetwal_copy(const void *image, size_t length) {
     coqetwal_table *made = length > SIZE_MAX - sizeof *made ? NULL : (coqetwal_table *)malloc(sizeof *made + length);
     if (made) {
         made->length = length;
         memcpy(made + 1, coqetwal_bytes(image), length);
-        found = coqetwal_image_verify(coqetwal_image(made), length);
     }
+    return made;
+}
+
+/* Copies an image and verifies the copy. The result is 0, and *table is the table; or it is the number of the fault, and *table
+ * is null. If `table` is null, it is COQETWAL_NULL, and nothing is copied. `fault` may be null; if it isn't, *fault is the fault,
+ * 0 for an accepted image. It allocates with malloc: the size of the image, and a little more. */
+COQETWAL_FUNCTION int coqetwal_load(const void *image, size_t length, coqetwal_table **table, struct coqetwal_fault *fault) {
+    struct coqetwal_fault found = {COQETWAL_NULL, 0};
+    coqetwal_table *made = NULL;
+    if (table && !coqetwal_is_missing(image, length)) {
+        found.number = COQETWAL_NO_MEMORY;
+        made = coqetwal_copy(image, length);
+    }
+    if (made) found = coqetwal_image_verify(coqetwal_image(made), length);
     if (found.number) {
         free(made);
         made = NULL;
     }
-    *table = made;
+    if (table) *table = made;
     if (fault) *fault = found;
     return found.number;
 }
 
 /* Frees a table, which no call may use any more. With a null pointer it does nothing. */
-static inline void coqetwal_free(coqetwal_table *table) {
+COQETWAL_FUNCTION void coqetwal_free(coqetwal_table *table) {
     free(table);
 }
 
-/* Judges a name. `asked` is a sum of permissions, 1 to 63; any other number has no answer. All of *answer is written, and its
- * verdict is also the result. Allocates no memory. */
-static inline int coqetwal_judge(const coqetwal_table *table, const void *name, size_t length, uint32_t asked,
-                                 struct coqetwal_answer *answer) {
-    coqetwal_image_judge(coqetwal_image(table), coqetwal_image_length(table), coqetwal_bytes(name), length, asked, answer);
-    return answer->verdict;
+/* Judges a name. `asked` is a sum of permissions, 1 to 63; any other number has no answer, and neither has a missing name. The
+ * result is the verdict. All of *answer is written, with the same verdict; if `answer` is null, the result is all there is.
+ * Allocates no memory. */
+COQETWAL_FUNCTION int coqetwal_judge(const coqetwal_table *table, const void *name, size_t length, uint32_t asked,
+                                     struct coqetwal_answer *answer) {
+    struct coqetwal_answer unread, *told = answer ? answer : &unread;
+    /* Of a missing name nothing is asked, which has no answer. */
+    if (coqetwal_is_missing(name, length)) length = asked = 0;
+    coqetwal_image_judge(coqetwal_image(table), coqetwal_image_length(table), coqetwal_bytes(name), length, asked, told);
+    return told->verdict;
 }
 
 /* Judges `count` names, each from an offset to the next one in one text: `offsets` has count + 1 entries, and `answers` has room
- * for `count`. Both may be null if `count` is 0; then nothing is done. If its offsets descend or leave the text, a name has no
- * answer; `asked` is as above. Each answer is written. Allocates no memory. */
-static inline void coqetwal_judge_batch(const coqetwal_table *table, const void *names, size_t length, const size_t *offsets,
-                                        uint32_t asked, struct coqetwal_answer *answers, size_t count) {
-    if (count)
-        coqetwal_image_judge_all(coqetwal_image(table), coqetwal_image_length(table), coqetwal_bytes(names), length, offsets,
-                                 count + 1, asked, answers, count);
+ * for `count`. If its offsets descend or leave the text, or `offsets` is null, a name has no answer; `asked` is as above. Each
+ * answer is written; if `answers` is null or `count` is 0, nothing is done. Allocates no memory. */
+COQETWAL_FUNCTION void coqetwal_judge_batch(const coqetwal_table *table, const void *names, size_t length, const size_t *offsets,
+                                            uint32_t asked, struct coqetwal_answer *answers, size_t count) {
+    size_t none = 0;
+    if (!count || !answers) return;
+    if (coqetwal_is_missing(names, length)) length = asked = 0;
+    coqetwal_image_judge_all(coqetwal_image(table), coqetwal_image_length(table), coqetwal_bytes(names), length,
+                             offsets ? offsets : &none, offsets ? count + 1 : 0, asked, answers, count);
 }
 
 /* How many states, cells and records a table has. */
-static inline uint32_t coqetwal_states(const coqetwal_table *table) {
+COQETWAL_FUNCTION uint32_t coqetwal_states(const coqetwal_table *table) {
     return coqetwal_image_counts(coqetwal_image(table), coqetwal_image_length(table)).states;
 }
 
-static inline uint32_t coqetwal_cells(const coqetwal_table *table) {
+COQETWAL_FUNCTION uint32_t coqetwal_cells(const coqetwal_table *table) {
     return coqetwal_image_counts(coqetwal_image(table), coqetwal_image_length(table)).cells;
 }
 
-static inline uint32_t coqetwal_records(const coqetwal_table *table) {
+COQETWAL_FUNCTION uint32_t coqetwal_records(const coqetwal_table *table) {
     return coqetwal_image_counts(coqetwal_image(table), coqetwal_image_length(table)).records;
+}
+
+/* The version of the library, as "0.1.0". In a program that includes this file it is COQETWAL_VERSION. */
+COQETWAL_FUNCTION const char *coqetwal_version(void) {
+    return COQETWAL_VERSION;
 }
 
 #ifdef __cplusplus

@@ -1,8 +1,8 @@
-/* Calls the static library as a program in C would, for tools/calls, which compares what it prints with ./aa-trace.
+/* Calls the library as a program in C would, for tools/calls, which compares what it prints with ./aa-trace.
  *
  *     calls check IMAGE...         what `aa-trace check` prints for each image
  *     calls judge IMAGE QUERIES    a line for each query: verdict, rule, missing, steps
- *     calls bad IMAGE              calls that have no answer, on an image that is accepted
+ *     calls bad IMAGE              calls that have no answer, and null pointers, on an image that is accepted
  *     calls threads IMAGE QUERIES  eight threads judge by one table what one thread judged
  *
  * QUERIES has for each query the permissions asked and the length of the name, 4 bytes each in this machine's order, and then
@@ -244,6 +244,62 @@ static void load_nothing(struct text image) {
                "an image of all memory");
 }
 
+/* Each pointer of a load null or not: a missing image and no room for a table are faults. */
+static void load_nulls(struct text image) {
+    static const size_t lengths[] = {0, 1, 19, 20, 4096, SIZE_MAX};
+    for (int nulls = 0; nulls < 8; nulls++)
+        for (size_t i = 0; i < sizeof lengths / sizeof *lengths; i++) {
+            const void *bytes = nulls & 1 ? NULL : image.bytes;
+            size_t length = bytes && lengths[i] ? image.length : lengths[i];
+            struct coqetwal_fault fault = {UINT16_MAX, UINT32_MAX};
+            coqetwal_table *table = (coqetwal_table *)&fault;
+            int wanted = nulls & 2 || (!bytes && length) ? COQETWAL_NULL : length ? COQETWAL_ACCEPTED : COQETWAL_SHORT;
+            int found = coqetwal_load(bytes, length, nulls & 2 ? NULL : &table, nulls & 4 ? NULL : &fault);
+            expect(found == wanted, "a load with null pointers");
+            expect(nulls & 4 ? fault.number == UINT16_MAX : fault.number == wanted && !fault.place, "its fault");
+            if (nulls & 2) continue;
+            expect(!table == !!wanted, "its table");
+            coqetwal_free(table);
+        }
+}
+
+/* Each pointer of a question null or not: a missing name has no answer, and without room for the answer there is the verdict. */
+static void judge_nulls(const coqetwal_table *table) {
+    static const size_t lengths[] = {0, 1, 11, 4096, SIZE_MAX};
+    for (int nulls = 0; nulls < 8; nulls++)
+        for (size_t i = 0; i < sizeof lengths / sizeof *lengths; i++)
+            for (uint32_t asked = 0; asked <= PERMISSION_SETS; asked++) {
+                const char *name = nulls & 2 ? NULL : "/etc/passwd";
+                size_t length = name && lengths[i] > 11 ? 11 : lengths[i];
+                struct coqetwal_answer wanted, answer = unwritten();
+                memset(&wanted, 0, sizeof wanted);
+                if (!(nulls & 1) && (name || !length)) wanted = judged(table, "/etc/passwd", length, asked);
+                int verdict = coqetwal_judge(nulls & 1 ? NULL : table, name, length, asked, nulls & 4 ? NULL : &answer);
+                expect(verdict == wanted.verdict, "a question with null pointers");
+                expect(is_same(answer, nulls & 4 ? unwritten() : wanted), "its answer");
+            }
+}
+
+/* Each pointer of a batch null or not: without text or offsets no name has an answer, and without room for answers nothing is done. */
+static void batch_nulls(const coqetwal_table *table) {
+    static const char names[] = "/etc/passwd/tmp/x";
+    static const size_t offsets[] = {0, 11, 17};
+    for (int nulls = 0; nulls < 16; nulls++) {
+        struct coqetwal_answer answers[3] = {unwritten(), unwritten(), unwritten()};
+        coqetwal_judge_batch(nulls & 1 ? NULL : table, nulls & 2 ? NULL : names, 17, nulls & 4 ? NULL : offsets, COQETWAL_READ,
+                             nulls & 8 ? NULL : answers, 2);
+        for (size_t i = 0; i < 3; i++) {
+            struct coqetwal_answer wanted = unwritten();
+            if (!nulls && i < 2) wanted = judged(table, names + offsets[i], offsets[i + 1] - offsets[i], COQETWAL_READ);
+            if (nulls && nulls < 8 && i < 2) memset(&wanted, 0, sizeof wanted);
+            expect(is_same(answers[i], wanted), "a batch with null pointers");
+        }
+    }
+    coqetwal_judge_batch(NULL, NULL, SIZE_MAX, NULL, COQETWAL_READ, NULL, SIZE_MAX);
+    expect(!coqetwal_image_length(NULL) && coqetwal_image(NULL), "the image of no table");
+    expect(!strcmp(coqetwal_version(), COQETWAL_VERSION), "another version than the header's");
+}
+
 /* In a batch, the names whose offsets are bad have no answer, and the others are judged as usual. */
 static void batch_badly(const coqetwal_table *table) {
     static const char names[] = "/etc/passwd/tmp/x";
@@ -284,6 +340,9 @@ static void call_badly(struct text image) {
     load_nothing(image);
     batch_badly(table);
     lack_offsets(table);
+    load_nulls(image);
+    judge_nulls(table);
+    batch_nulls(table);
     coqetwal_free(table);
     printf("%d\n", bad_calls);
 }

@@ -1,4 +1,5 @@
-// Shows that the header works from C++: loads the image that is named, judges a name by it, and prints the verdict's number.
+// Shows that the header works from C++: loads the image that is named, judges a name by it, and prints the verdict's number. Null
+// pointers in place of an image and of a name must have the answers that the header says.
 #include "coqetwal.h"
 
 #include <cstdio>
@@ -22,5 +23,7 @@ int main(int count, char **words) {
     std::unique_ptr<coqetwal_table, Free> table(loaded);
     std::string name(words[2]);
     coqetwal_answer answer;
+    if (coqetwal_load(nullptr, 1, &loaded, nullptr) != COQETWAL_NULL || loaded) return COQETWAL_NULL;
+    if (coqetwal_judge(table.get(), nullptr, 1, COQETWAL_READ, &answer) != COQETWAL_NO_ANSWER) return COQETWAL_NULL;
     std::printf("%d\n", coqetwal_judge(table.get(), name.data(), name.size(), COQETWAL_READ | COQETWAL_WRITE, &answer));
 }

@@ -1,184 +1,265 @@
 """What each command of the program writes (docs/RULES-PROGRAM.md), as the second implementation answers it."""
 import dataclasses
+import math
 
 import events
 import images
+import logs
+import objects
+import script_notes
 import scripts
+import shown
 from flat_text import ImportFault
-from importing import Options, import_text, refusal
-from texts import PERMISSIONS, SENTENCES, Fault, canonical_rule, is_permissions, read_profile
+from importing import Options, import_all, import_text, map_of, mark_of, refusal, without_control
+from texts import PERMISSIONS, Fault, canonical_rule, canonical_text, is_permissions, read_profile
 from verdicts import Automaton, Places, TooManyStates, verdict
+from words import BadUsage, Form, number_of, read_words
 
 CAPACITY = 1024
 MOST_ENTRIES = 16384
 MOST_DEPTH = 64
+VERBOSE, QUIET, JSON = "--verbose", "--quiet", "--json"
+CHOICE = ("--profile", "--owner", "--for", "--define")
+NO_INPUT, NO_FILE = "refused: input", "refused: output"
 
 
 @dataclasses.dataclass(frozen=True)
 class Outcome:
-    """What a run of the program gives: its status, and what it writes to both streams."""
+    """What a run of the program gives: its status, what it writes to both streams, and to the file `map`, None if that stays as it was."""
     status: int
     out: bytes = b""
     err: bytes = b""
+    map: bytes = None
 
 
-def refused(reason, status=3):
-    return Outcome(status, err=reason.encode() + b"\n")
+def refused(reason, status=3, note=b""):
+    return Outcome(status, err=reason.encode() + b"\n" + note)
 
 
-def answer(words, text):
-    """The outcome of the program with these arguments, given this text; raises events.Undetermined where the rules leave it open."""
-    command, *arguments = words
-    return COMMANDS[command](arguments, text)
+def answer(words, text, files):
+    """The outcome of the program with these arguments, given this text and these files; raises events.Undetermined where the rules
+    leave it open."""
+    command, *rest = words
+    form, run = COMMANDS[command]
+    try:
+        return run(read_words(form, rest), text, files)
+    except BadUsage:
+        return Outcome(2)
 
+
+# A name and its permissions.
 
 def judging(act):
     """A command with PERMS and NAME."""
-    def run(arguments, text):
-        asked, name = (word.encode("utf-8") for word in arguments)
+    def run(line, text, _):
+        asked, name = (word.encode("utf-8") for word in line.arguments)
+        if not line.has("--flattened") and line.has(*CHOICE, "--override"):
+            raise BadUsage("--flattened")
+        options = Options.read(line) if line.has("--flattened") else None
         if not is_permissions(asked):
             return refused("bad permissions", 2)
         if not name.startswith(b"/"):
             return refused("bad name", 2)
-        return act(asked, name, text)
+        return act(line, asked, name, text) if options is None else explain_flattened(line, asked, name, text, options)
     return run
 
 
-def read_refusal(fault):
-    return f"refused: read {int(fault.kind)} at {fault.at}"
+def read_refusal(fault, note=b""):
+    return refused(f"refused: read {int(fault.kind)} at {fault.at}", note=note)
+
+
+def verdict_outcome(line, said, more, members):
+    """The answer of a verdict, with other lines, or other members."""
+    if line.has(QUIET):
+        return Outcome(0 if said == b"allowed" else 1)
+    if line.has(JSON):
+        return Outcome(0, objects.written(objects.of_verdict(said) | members))
+    return Outcome(0, b"".join(one + b"\n" for one in [said, *more]))
 
 
 @judging
-def judge(asked, name, text):
+def judge(line, asked, name, text):
     try:
         record = Places(read_profile(text)).hits(name)
     except Fault as fault:
-        return refused(read_refusal(fault))
-    return Outcome(0, verdict(record, asked) + b"\n")
+        return read_refusal(fault, shown.shown_fault(text, fault) if line.has(VERBOSE) else b"")
+    return verdict_outcome(line, verdict(record, asked), [], {})
 
 
 @judging
-def explain(asked, name, text):
+def explain(line, asked, name, text):
     try:
         profile = read_profile(text)
     except Fault as fault:
-        return refused(read_refusal(fault) + "\n" + shown_fault(fault, text))
+        return read_refusal(fault, shown.shown_fault(text, fault))
+    return explained(line, profile, asked, name, lambda rule: (shown.line_of(text, rule.start), None), {})
+
+
+def explain_flattened(line, asked, name, text, options):
+    try:
+        profile, _ = import_text(text, options)
+    except ImportFault as fault:
+        return Outcome(3, err=refusal(text, fault))
+    return explained(line, profile, asked, name, lambda rule: (shown.line_of(text, rule.start), mark_of(text, rule.start)), {"file": None})
+
+
+def explained(line, profile, asked, name, origin, more):
+    """The verdict and the reasons. `origin` gives a rule's line and its file, or None; `more` are members of a rule's object."""
     record = Places(profile).hits(name)
-    reasons = [reason(profile, text, letter, *record[2 * index:2 * index + 2]) for index, letter in enumerate(PERMISSIONS)
-               if letter in asked]
-    return Outcome(0, b"".join(line + b"\n" for line in [verdict(record, asked), *reasons]))
+    found = [(letter, *record[2 * index:2 * index + 2]) for index, letter in enumerate(PERMISSIONS) if letter in asked]
+    reasons = [reason(profile, origin, *one) for one in found]
+    members = [reason_object(profile, origin, more, *one) for one in found]
+    return verdict_outcome(line, verdict(record, asked), reasons, {"reasons": members})
 
 
-def reason(profile, text, letter, allows, denies):
+def reason(profile, origin, letter, allows, denies):
     number = denies or allows
     if number == 0:
         return b"%c: no rule" % letter
     rule = profile.rules[number - 1]
-    line = text.count(b"\n", 0, rule.start) + 1
-    return b"%c: %s by rule %d, line %d: %s" % (letter, b"denied" if denies else b"allowed", number, line, canonical_rule(rule))
+    line, mark = origin(rule)
+    place = b"line %d" % line + (b"" if mark is None else b", in or after " + without_control(mark))
+    return b"%c: %s by rule %d, %s: %s" % (letter, b"denied" if denies else b"allowed", number, place, canonical_rule(rule))
 
 
-def shown_fault(fault, text):
-    """The place and the sentence, the line, and a caret below the byte."""
-    start = text.rfind(b"\n", 0, fault.at) + 1
-    line = text[start:].split(b"\n")[0]
-    shown = "".join(" " if byte == 9 else chr(byte) if 32 <= byte <= 126 else "?" for byte in line)
-    sentence = SENTENCES[fault.kind].format(at=fault.at, length=fault.length)
-    column = fault.at - start + 1
-    return f"line {text.count(bytes((10,)), 0, fault.at) + 1}, column {column}: {sentence}\n{shown}\n{' ' * (column - 1)}^"
+def reason_object(profile, origin, more, letter, allows, denies):
+    number = denies or allows
+    if number == 0:
+        return objects.of_reason(letter, "no rule", None)
+    rule = profile.rules[number - 1]
+    line, mark = origin(rule)
+    members = objects.of_rule(rule, number, line) | more
+    members |= {"file": objects.text_of(mark)} if more and mark is not None else {}
+    return objects.of_reason(letter, "denied" if denies else "allowed", members)
 
 
-def number_of(arguments, option, default, least, most):
-    """The number of the only option of a command, or None if the command line is wrong."""
-    if not arguments:
-        return default
-    number = "=".join(arguments).removeprefix(f"--{option}=").removeprefix("+")
-    is_number = number.isascii() and number.isdigit() and least <= int(number) <= most
-    return int(number) if is_number else None
+# Tables and images.
 
-
-def depth_of(arguments):
-    """The number of `--depth`, or None."""
-    return number_of(arguments, "depth", 0, 0, MOST_DEPTH)
-
-
-def compile_text(arguments, text):
-    depth = depth_of(arguments)
-    if depth is None:
-        return Outcome(2)
+def compile_text(line, text, _):
+    depth = number_of(line, "--depth", 0, 0, MOST_DEPTH)
     try:
         table = images.make_table(Automaton(read_profile(text)), depth)
         return Outcome(0, images.write_image(table, 1 if depth == 0 and images.fits_version_1(table) else 2))
     except Fault as fault:
-        return refused(read_refusal(fault))
+        return read_refusal(fault, shown.shown_fault(text, fault) if line.has(VERBOSE) else b"")
     except TooManyStates:
-        return refused("refused: compile 1")
+        return refused("refused: compile 1", note=shown.TOO_MANY_STATES if line.has(VERBOSE) else b"")
 
 
-def image_refusal(fault):
-    return refused(f"refused: image {fault.number}" + ("" if fault.index is None else f" at {fault.index}"))
+def image_refusal(line, fault):
+    place = "" if fault.index is None else f" at {fault.index}"
+    return refused(f"refused: image {fault.number}{place}", note=shown.image_note(fault) if line.has(VERBOSE) else b"")
 
 
-def check(_, image):
+def check(line, image, _):
     try:
         table = images.read_image(image)
     except images.ImageFault as fault:
-        return image_refusal(fault)
+        return image_refusal(line, fault)
     depth = b" depth %d" % table.bound if table.bound else b""
     return Outcome(0, b"ok states %d cells %d accepts %d%b\n" % (len(table.default), len(table.next), len(table.records), depth))
 
 
 @judging
-def match(asked, name, image):
+def match(line, asked, name, image):
     try:
         table = images.read_image(image)
     except images.ImageFault as fault:
-        return image_refusal(fault)
+        return image_refusal(line, fault)
     states, look_ups = table.run(name)
-    lines = [verdict(table.record_at(states[-1]), asked), b"steps %d" % len(name), *([b"lookups %d" % look_ups] if table.bound else [])]
-    return Outcome(0, b"".join(line + b"\n" for line in lines))
+    lines = [b"steps %d" % len(name), *([b"lookups %d" % look_ups] if table.bound else [])]
+    members = {"lookups": look_ups if table.bound else None, "steps": len(name)}
+    return verdict_outcome(line, verdict(table.record_at(states[-1]), asked), lines, members)
 
 
-def capacity_of(arguments):
-    """The number of `--capacity`, or None."""
-    return number_of(arguments, "capacity", CAPACITY, 1, MOST_ENTRIES)
+# Scripts.
+
+def scripted(command, machine):
+    """A command that reads a script, which a machine answers."""
+    def run(line, text, _):
+        printed, stopped = scripts.run(text, machine(number_of(line, "--capacity", CAPACITY, 1, MOST_ENTRIES)))
+        return script_outcome(printed, stopped, 0, script_notes.notes(command, text) if line.has(VERBOSE) else b"")
+    return run
 
 
-def scripted(run):
-    """A command that reads a script: `run` gives what is printed, the number of the line that stops it, or None, and the status."""
-    def act(arguments, text):
-        capacity = capacity_of(arguments)
-        if capacity is None:
-            return Outcome(2)
-        printed, stopped, status = run(text, capacity)
-        out = b"".join(line + b"\n" for line in printed)
-        return Outcome(status, out) if stopped is None else Outcome(3, out, b"line %d: not a command\n" % stopped)
-    return act
+def test_script(line, text, _):
+    script = scripts.TestScript(number_of(line, "--capacity", CAPACITY, 1, MOST_ENTRIES))
+    if line.has(VERBOSE):
+        raise events.Undetermined
+    written = scripts.Objects if line.has(JSON) else scripts.Lines
+    printed, stopped, holds = scripts.test(text, script, line.has("--answers"), written)
+    return script_outcome(printed, stopped, 0 if holds else 1)
 
 
-def run_script(text, capacity):
-    return *scripts.run(text, scripts.Script(capacity)), 0
+def script_outcome(printed, stopped, status, note=b""):
+    """What is printed, the number of the line that stops the script, or None, and notes."""
+    out = b"".join(one + b"\n" for one in printed)
+    return Outcome(status, out, note) if stopped is None else Outcome(3, out, b"line %d: not a command\n" % stopped + note)
 
 
-def run_events(text, capacity):
-    return *scripts.run(text, events.Events(capacity)), 0
+# Imports.
 
-
-def test_script(text, capacity):
-    printed, stopped, holds = scripts.test(text, scripts.Script(capacity))
-    return printed, stopped, 0 if holds else 1
-
-
-def import_profile(arguments, text):
-    options = Options.read(arguments)
-    if options is None:
-        return Outcome(2)
+def import_profile(line, text, _):
+    options = Options.read(line)
+    if line.has("--all") and line.has("--profile", "--map"):
+        raise BadUsage("--all")
+    mapped = None
     try:
-        profile, account = import_text(text, options)
+        if line.has("--all"):
+            out, account = import_all(text, options)
+        else:
+            profile, account = import_text(text, options)
+            out, mapped = canonical_text(profile), map_of(text, profile) if line.has("--map") else None
     except ImportFault as fault:
-        return Outcome(3, err=refusal(text, fault))
-    return Outcome(0, profile, account)
+        return Outcome(3, err=refusal(text, fault) + (shown.import_note(text, fault) if line.has(VERBOSE) else b""))
+    if line.has("--map") and line.value("--map") != "map":
+        return refused(NO_FILE)
+    return Outcome(0, out, account, mapped)
 
 
-COMMANDS = {"judge": judge, "explain": explain, "compile": compile_text, "check": check, "match": match, "import": import_profile,
-            "run": scripted(run_script), "test": scripted(test_script), "steps": scripted(run_events)}
+# Lists and logs.
+
+def names(line, text, files):
+    perms, file = line.arguments
+    asked = perms.encode()
+    if not is_permissions(asked):
+        return refused("bad permissions", 2)
+    if file not in files:
+        return refused(NO_INPUT)
+    try:
+        places = Automaton(read_profile(files[file])).places
+    except Fault as fault:
+        return read_refusal(fault)
+    except TooManyStates:
+        return refused("refused: compile 1")
+    end = b"\0" if line.has("--null") else b"\n"
+    listed = [(name, verdict(places.hits(name), asked)) for name in text.removesuffix(end).split(end)] if text else []
+    wanted = [(name, said) for name, said in listed if selects(line, said == b"allowed")]
+    return Outcome(0, b"".join(name + (b": " + said if line.has("--verdict") else b"") + end for name, said in wanted))
+
+
+def selects(line, is_allowed):
+    """Whether a name is written."""
+    return not is_allowed if line.has("--not-allowed") else is_allowed or line.has("--verdict")
+
+
+def audit(line, log, files):
+    if not all(name in files for name in line.arguments):
+        return refused(NO_INPUT)
+    reports = logs.reports([(name, files[name]) for name in line.arguments], log)
+    return Outcome(0, b"".join(report.written() if line.has(JSON) else report.line() for report in reports))
+
+
+COMMANDS = {
+    "judge": (Form((VERBOSE, QUIET, JSON), (), 2, 2), judge),
+    "explain": (Form((JSON, "--flattened", "--override"), CHOICE, 2, 2), explain),
+    "compile": (Form((VERBOSE,), ("--depth",)), compile_text),
+    "check": (Form((VERBOSE,)), check),
+    "match": (Form((VERBOSE, QUIET, JSON), (), 2, 2), match),
+    "run": (Form((VERBOSE,), ("--capacity",)), scripted("run", scripts.Script)),
+    "test": (Form((VERBOSE, "--answers", JSON), ("--capacity",)), test_script),
+    "steps": (Form((VERBOSE,), ("--capacity",)), scripted("steps", events.Events)),
+    "import": (Form((VERBOSE, "--all", "--override", "--strict"), (*CHOICE, "--account", "--map")), import_profile),
+    "names": (Form(("--not-allowed", "--null", "--verdict"), (), 2, 2), names),
+    "audit": (Form((JSON,), (), 1, math.inf), audit),
+}

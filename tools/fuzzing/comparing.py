@@ -2,9 +2,9 @@
 import ast
 import dataclasses
 import random
-import re
 import shlex
 import subprocess
+import tempfile
 import zlib
 
 import commands
@@ -17,21 +17,25 @@ from verdicts import Places
 SECONDS = 600
 NO_END = -1000
 MOST_RUNS = 3000
-# A word with append that may be permissions, in any text: before one there is a blank, a brace, a comma, a quote or a number.
-APPEND = re.compile(rb"(?<![A-Za-z_/\[^-])[rwlkmxipcu]*a[rwlkmaxipcu]*(?![A-Za-z0-9_])", re.IGNORECASE)
-APPEND_TO_MAP = bytes.maketrans(b"aA", b"mM")
-WIDER = re.compile(rb"(?<!expected )(wider by r?wk?m?)(?= /)")
+MAP = "map"
+# What is in the file for a map before.
+OLD_MAP = b"1 1:1 <old>\n" * 1000
 
 
 @dataclasses.dataclass(frozen=True)
 class Case:
-    """A command with its arguments, and its standard input."""
+    """A command with its arguments, its standard input, and the texts of the files `1`, `2` and so on of the folder it runs in."""
     words: tuple
     text: bytes
+    files: tuple = ()
+
+    def named_files(self):
+        return {str(number): text for number, text in enumerate(self.files, 1)}
 
     def written(self):
-        """A file with this case: a line with the command, and its standard input."""
-        return shlex.join(self.words).encode() + b"\n" + self.text
+        """A file with this case: a line with the command, and its standard input; or with files a line of a list."""
+        command = shlex.join(self.words).encode()
+        return command + b" < " + repr((self.text, *self.files)).encode() + b"\n" if self.files else command + b"\n" + self.text
 
     @classmethod
     def read(cls, written):
@@ -40,27 +44,38 @@ class Case:
 
     @classmethod
     def read_line(cls, line):
-        """A case as a line of a list: the command, ` < `, and its standard input as a literal of Python."""
+        """A case as a line of a list: the command, ` < `, and its standard input as a literal of Python; with files a tuple of it and
+        their texts."""
         words, text = line.split(" < ", 1)
-        return cls(tuple(shlex.split(words)), ast.literal_eval(text))
+        literal = ast.literal_eval(text)
+        text, *files = literal if isinstance(literal, tuple) else (literal,)
+        return cls(tuple(shlex.split(words)), text, tuple(files))
 
 
-def without_append(case):
-    """The case with `m` in place of `a` wherever that may be a permission."""
-    def changed(text):
-        return APPEND.sub(lambda word: word.group().translate(APPEND_TO_MAP), text)
-
-    command, *words = case.words
-    is_question, is_image = command in ("judge", "explain", "match"), command in ("check", "match")
-    named = words[1:] if is_question else []
-    words = [changed(word.encode()).decode() for word in words[:len(words) - len(named)]]
-    return Case((command, *words, *named), case.text if is_image else changed(case.text))
+def with_text(case, number, text):
+    """The case with another standard input, which is number 0, or another file."""
+    if number == 0:
+        return dataclasses.replace(case, text=text)
+    return dataclasses.replace(case, files=(*case.files[:number - 1], text, *case.files[number:]))
 
 
 def program_outcome(program, case):
     """What the program answers; a status below 0 if a signal ended it, or nothing did in time."""
+    if not case.files and not any(word.startswith("--map") for word in case.words):
+        return outcome_in(None, program, case)
+    with tempfile.TemporaryDirectory() as folder:
+        for name, text in [*case.named_files().items(), (MAP, OLD_MAP)]:
+            with open(f"{folder}/{name}", "wb") as file:
+                file.write(text)
+        found = outcome_in(folder, program, case)
+        with open(f"{folder}/{MAP}", "rb") as file:
+            written = file.read()
+        return dataclasses.replace(found, map=None if written == OLD_MAP else written)
+
+
+def outcome_in(folder, program, case):
     try:
-        ran = subprocess.run([program, *case.words], input=case.text, capture_output=True, timeout=SECONDS, check=False)
+        ran = subprocess.run([program, *case.words], input=case.text, capture_output=True, timeout=SECONDS, check=False, cwd=folder)
     except subprocess.TimeoutExpired:
         return commands.Outcome(NO_END, err=b"no end in %d seconds" % SECONDS)
     return commands.Outcome(ran.returncode, ran.stdout, ran.stderr)
@@ -69,21 +84,11 @@ def program_outcome(program, case):
 def second_outcome(case):
     """What the rules answer; None where they leave it open, and a text if the second implementation fails."""
     try:
-        return commands.answer(case.words, case.text)
+        return commands.answer(case.words, case.text, case.named_files())
     except Undetermined:
         return None
     except Exception as error:  # pylint: disable=broad-exception-caught
         return f"{type(error).__name__}: {error}"
-
-
-def older_outcome(base, case):
-    """What a program answers that doesn't know append, with the append that write holds now; None if the case has that permission."""
-    if case != without_append(case):
-        return None
-    found = program_outcome(base, case)
-    if found.status == 2 and not found.err.startswith(b"bad "):
-        return commands.Outcome(2)
-    return dataclasses.replace(found, out=WIDER.sub(rb"\1a", found.out))
 
 
 def is_same(program, second):
@@ -101,7 +106,7 @@ class Difference:
 
 
 def difference(program, case, second):
-    """How the two answers to a case differ, or None. `second` is what the rules answer, or the older program."""
+    """How the two answers to a case differ, or None. `second` is what the rules answer."""
     if second is None:
         return None
     found = program_outcome(program, case)
@@ -133,13 +138,12 @@ def wrong_name(program, case, found):
 class Shrinking:
     """Drops parts of a case as long as the two answers differ."""
 
-    def __init__(self, program, other, found):
-        """`other` gives what a case's answer is compared with."""
-        self.program, self.other, self.found, self.runs = program, other, found, 0
+    def __init__(self, program, found):
+        self.program, self.found, self.runs = program, found, 0
 
     def differs(self, case):
         self.runs += 1
-        found = difference(self.program, case, self.other(case)) if self.runs < MOST_RUNS else None
+        found = difference(self.program, case, second_outcome(case)) if self.runs < MOST_RUNS else None
         self.found = found or self.found
         return found is not None
 
@@ -147,23 +151,25 @@ class Shrinking:
         """The smallest case that was found to differ. One that doesn't end in time is left as it is."""
         if self.found.program.status == NO_END:
             return self.found
-        self.shrink_text(lambda text: text.splitlines(keepends=True))
-        self.shrink_text(lambda text: [text[at:at + 1] for at in range(len(text))])
+        for number in range(len(self.found.case.files) + 1):
+            self.shrink_text(number, lambda text: text.splitlines(keepends=True))
+            self.shrink_text(number, lambda text: [text[at:at + 1] for at in range(len(text))])
         self.shrink_words()
         return self.found
 
-    def shrink_text(self, cut):
-        parts = cut(self.found.case.text)
+    def shrink_text(self, number, cut):
+        """Drops parts of standard input, which is number 0, or of a file."""
+        parts = cut((self.found.case.text, *self.found.case.files)[number])
         size = max(1, len(parts) // 2)
         while size:
-            parts = self.dropped(parts, size)
+            parts = self.dropped(number, parts, size)
             size //= 2
 
-    def dropped(self, parts, size):
+    def dropped(self, number, parts, size):
         at = 0
         while at < len(parts):
             fewer = parts[:at] + parts[at + size:]
-            if self.differs(Case(self.found.case.words, b"".join(fewer))):
+            if self.differs(with_text(self.found.case, number, b"".join(fewer))):
                 parts = fewer
             else:
                 at += size
@@ -174,5 +180,5 @@ class Shrinking:
         at = 0
         while at < len(self.found.case.words[-1]) and len(self.found.case.words) > 1:
             *before, last = self.found.case.words
-            if not self.differs(Case((*before, last[:at] + last[at + 1:]), self.found.case.text)):
+            if not self.differs(dataclasses.replace(self.found.case, words=(*before, last[:at] + last[at + 1:]))):
                 at += 1

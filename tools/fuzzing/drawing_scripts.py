@@ -1,15 +1,16 @@
 """Draws scripts of `run`, `test` and `steps`. The second implementation answers each line as it is drawn, so that many lines meet
 entries that exist, and no line is drawn whose answer the rules leave open."""
-from drawing import chance, draw_text, mutate
+from drawing import chance, draw_letters, draw_name, draw_text, mutate
+from drawing_words import draw_flags, mixed
 from events import Events, Undetermined
-from scripts import Line, Script, plain_words, quoted_words
+from scripts import Line, Script, TestScript, plain_words, quoted_words
 from tree import ROOT
 
 COMPONENTS = [b"a", b"b", b"c", b"d", b"...", b".ssh", b"\xff\x80", b"a,b", b"#", b"{"]
 LONG = [b"n" * 255, b"n" * 256, b"m" * 254]
 TOKENS = [b" ", b"\t", b"\"", b"/", b"//", b"/.", b"/..", b"#", b"\n", b"\0", b"x", b"l", b"rw", b".\n", b"policy\n", b"\r", b"0",
           b"99999999999999999999", b"expect ", b"keep ", b"close\n", b"open ", b"/a", b"18446744073709551615", b"18446744073709551616",
-          b"10"]
+          b"10", b"\\", b"\\n", b"\\x41", b" ...", b"judge ", b"explain "]
 
 
 class Drawing:
@@ -110,15 +111,39 @@ class Drawing:
 
     def test_line(self):
         kind = self.draw.random()
-        if kind < 0.3:
-            wanted = self.last if chance(self.draw, 0.8) else self.draw.choice([b"ok 1", b"nothing", b"a  b\x01", b"\"ok\""])
-            self.lines.append(self.draw.choice([b"expect ", b" expect\t", b"expect  "]) + wanted + self.draw.choice([b"", b" "]))
-        elif kind < 0.4:
-            self.add(b'%s "/a %s"' % (self.draw.choice([b"mkdir", b"create", b'"rmdir"']), self.draw.choice([b"", b"b", b"c\r"])))
-        elif kind < 0.43:
-            self.add(self.draw.choice([b'open p "" r', b'symlink "" /x', b'drop ""', b'open "p" "/a b" "rw"', b'"policy" p']))
+        if kind < 0.25:
+            self.lines.append(self.draw.choice([b"expect ", b" expect\t", b"expect  "]) + self.wanted() + self.draw.choice([b"", b" "]))
+        elif kind < 0.35:
+            self.add(b'%s "/a %s"' % (self.draw.choice([b"mkdir", b"create", b'"rmdir"']),
+                                      self.draw.choice([b"", b"b", b"c\r", b"\\\"", b"\\\\", b"\\n", b"\\x2f\\xfF", b"\\x00"])))
+        elif kind < 0.38:
+            self.add(self.draw.choice([b'open p "" r', b'symlink "" /x', b'drop ""', b'open "p" "/a b" "rw"', b'"policy" p',
+                                       b'"ju\\x64ge" p / ""', b'explain p "" r', b"judge q a r"]))
+        elif kind < 0.55:
+            self.add(self.question())
+        elif kind < 0.57:
+            self.add(b"policy", self.draw.choice([b"", b"profile p {\n  /a x,\n}\n", b"profile p { /a r }\n"]))
         else:
             self.run_line()
+
+    def wanted(self):
+        """A text that an expectation may have: mostly the last answer or a front part of it."""
+        draw, kind = self.draw, self.draw.random()
+        if kind < 0.5:
+            return self.last
+        if kind < 0.8:
+            words = self.last.split(b" ")
+            front = b" ".join(words[:draw.randint(0, len(words))])
+            return (front if chance(draw, 0.9) else front[:-1]) + draw.choice([b" ...", b"\t ...", b" ...", b"..."])
+        return draw.choice([b"ok 1", b"nothing", b"a  b\x01", b"\"ok\"", b"...", b"... ok", b"policy refused: ...", b"ok ... ..."])
+
+    def question(self):
+        """Asks what a published profile says about a name."""
+        draw, profiles = self.draw, self.script.policy.profiles
+        profile = draw.choice([b"p", b"q", *profiles])
+        rules = profiles[profile].rules if profile in profiles else []
+        name = draw_name(draw, rules) if chance(draw, 0.5) else self.path()
+        return b"%s %s %s %s" % (draw.choice([b"judge", b"explain"]), quoted(profile), quoted(name), draw_letters(draw).encode())
 
     def events_line(self):
         draw, number = self.draw, b"%d" % self.draw.randint(1, 4)
@@ -155,11 +180,17 @@ class Drawing:
         self.add(b"close")
 
 
+def quoted(word):
+    """A word that stands for these bytes."""
+    escaped = b"".join(b"\\%c" % byte if byte in b'"\\' else b"\\x%02x" % byte if byte in b"\n\0\t" else bytes((byte,)) for byte in word)
+    return b'"%s"' % escaped
+
+
 def draw_script(draw, command):
     """The arguments and the text of a script."""
     capacity = draw.choice([1, 2, 3, 5, 8, 20, 100, None])
     split = quoted_words if command == "test" else plain_words
-    script = Events(capacity or 1024) if command == "steps" else Script(capacity or 1024)
+    script = {"run": Script, "test": TestScript, "steps": Events}[command](capacity or 1024)
     drawing = Drawing(draw, script, split)
     kinds = {"run": [drawing.run_line], "test": [drawing.test_line],
              "steps": [drawing.events_line] * 4 + [drawing.call, drawing.sets]}
@@ -171,7 +202,9 @@ def draw_script(draw, command):
     text = b"\n".join(drawing.lines) + draw.choice([b"\n", b"\n", b""])
     if chance(draw, 0.25):
         text = mutate(draw, text, TOKENS)
-    return draw_capacity(draw, capacity), text
+    options = draw_capacity(draw, capacity)
+    flags = draw_flags(draw, *(("--json", "--answers") if command == "test" else ("--verbose",)))
+    return mixed(draw, [options, *flags], []), text
 
 
 def draw_capacity(draw, capacity):

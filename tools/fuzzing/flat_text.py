@@ -34,11 +34,12 @@ APART = re.compile(rb"[pPcC][uU]?[xX]|[uU][xX]")
 
 
 class ImportFault(Exception):
-    """A fault's number, its place (None for 11), and what is shown of it: a word, or the names of all profiles."""
+    """A fault's number, its place (None for 11), and what is shown of it: a word, or the names of all profiles. Of an assignment `first`
+    is where the variable is declared before it, or None."""
 
-    def __init__(self, number, at=None, shown=None):
+    def __init__(self, number, at=None, shown=None, first=None):
         super().__init__(number, at, shown)
-        self.number, self.at, self.shown = number, at, shown
+        self.number, self.at, self.shown, self.first = number, at, shown, first
 
 
 @dataclasses.dataclass
@@ -98,10 +99,11 @@ class Statement:
 
 
 class FlatReader:
-    def __init__(self, text, variables, needs):
-        """`needs` tests that a path's variables can be put in."""
+    def __init__(self, text, variables, needs, overridden=frozenset()):
+        """`needs` tests that a path's variables can be put in. Assignments to overridden variables don't count."""
         self.text, self.at = text, 0
-        self.variables, self.needs = variables, needs
+        self.variables, self.needs, self.overridden = variables, needs, overridden
+        self.first_assignments = {}
         self.all = Block(b"", 0)
         self.profiles = []
 
@@ -235,9 +237,13 @@ class FlatReader:
             values.append(self.word().text)
         if not values:
             raise self.syntax()
+        self.first_assignments.setdefault(name, start)
+        if name in self.overridden:
+            return
         is_new = assignment.group(2) == b"="
         if name == b"profile_name" or is_new == (name in self.variables):
-            raise ImportFault(7, start)
+            first = self.first_assignments[name]
+            raise ImportFault(7, start, first=first if first < start else None)
         if is_new and len(self.variables) >= MOST_VARIABLES:
             raise ImportFault(13, start)
         self.variables.setdefault(name, []).extend(values)

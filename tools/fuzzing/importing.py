@@ -6,6 +6,7 @@ import re
 import sys
 
 from flat_text import MODE, OPEN_FLAGS, FlatReader, ImportFault, Part, flags_of
+from words import BadUsage
 from texts import MOST_RULES, Byte, Cursor, Fault, Group, Profile, Rule, Run, canonical_item, canonical_text, in_order, read_path
 
 LONGEST_TEXT = 16384
@@ -16,6 +17,9 @@ COUNT_WITHOUT_A_LIST = 32768
 MOST_LEADS = 16
 SLASH = Byte(ord("/"))
 LONGEST_SHOWN = 72
+LONGEST_LINE = 512
+DEFINE = re.compile(rb"([A-Za-z][A-Za-z0-9_]*)=((?:\\.|[^\\])*)", re.DOTALL)
+INCLUDED = b"##included "
 PIECE = re.compile(rb"[^\\@]+|\\.|@\{([A-Za-z][A-Za-z0-9_]*)\}|.", re.DOTALL)
 CLASS_OR_BYTE = re.compile(rb"\\.|\[((?:\\.|[^\]\\])+)\]|.", re.DOTALL)
 PLAIN_MEMBERS = re.compile(rb"(?!\\\^)\^?(?:\\?-(?!-))?(?:(?:\\[^-]|[^-\\])(?:-(?:\\[^-]|[^-\\]))?)*", re.DOTALL)
@@ -34,42 +38,37 @@ class Options:
     profile: bytes = None
     is_keep: bool = True
     defines: tuple = ()
+    overrides: bool = False
     is_strict: bool = False
+    account: str = "changes"
 
     @property
     def subject(self):
         return "owners" if self.is_keep else "others"
 
-    @classmethod
-    def read(cls, words):
-        """The options of a command line, or None if it's wrong."""
-        options, words = cls(), list(words)
-        given = set()
-        while words and words != ["--"]:
-            word, equals, value = words.pop(0).partition("=")
-            if word in given or word not in ("--profile", "--owner", "--define", "--strict") or bool(equals) and word == "--strict":
-                return None
-            given |= {word} - {"--define"}
-            if word != "--strict" and not equals:
-                if not words or words[0].startswith("-") and words[0] != "-":
-                    return None
-                value = words.pop(0)
-            options = options.with_option(word, value.encode())
-            if options is None:
-                return None
-        return options
+    @property
+    def overridden(self):
+        """The names of the variables of which the text says nothing."""
+        return {name for name, _ in self.defines} if self.overrides else frozenset()
 
-    def with_option(self, word, value):
-        if word == "--profile":
-            return dataclasses.replace(self, profile=value)
-        if word == "--strict":
-            return dataclasses.replace(self, is_strict=True)
-        if word == "--owner":
-            return dataclasses.replace(self, is_keep=value == b"keep") if value in (b"keep", b"drop") else None
-        found = re.fullmatch(rb"([A-Za-z][A-Za-z0-9_]*)=((?:\\.|[^\\])*)", value, re.DOTALL)
-        if found is None or found.group(1) == b"profile_name":
-            return None
-        return dataclasses.replace(self, defines=self.defines + (found.groups(),))
+    @classmethod
+    def read(cls, line):
+        """The options of a command line."""
+        profile, owner, subject = (line.value(option) for option in ("--profile", "--owner", "--for"))
+        account = line.value("--account", "changes")
+        is_known = owner in (None, "keep", "drop") and subject in (None, "owner", "others") and account in ("changes", "all", "none")
+        if not is_known or owner and subject:
+            raise BadUsage("--owner")
+        defines = tuple(map(read_define, line.options.get("--define", [])))
+        return cls(None if profile is None else profile.encode(), owner != "drop" and subject != "others", defines,
+                   line.has("--override"), line.has("--strict"), account)
+
+
+def read_define(value):
+    found = DEFINE.fullmatch(value.encode())
+    if found is None or found.group(1) == b"profile_name":
+        raise BadUsage("--define")
+    return found.groups()
 
 
 class Variables:
@@ -250,17 +249,28 @@ def is_odd_class(members):
 
 # What becomes of the text.
 
-class Import:
+class Reading:
+    """A text with its variables, and all that is in it."""
+
     def __init__(self, text, options):
-        self.text, self.options = text, options
-        self.variables = Variables(options.defines)
-        reader = FlatReader(text, self.variables.values, self.variables.need)
+        self.text, self.variables = text, Variables(options.defines)
+        reader = FlatReader(text, self.variables.values, self.variables.need, options.overridden)
         self.all = reader.read()
-        names = [block.name for block in reader.profiles]
-        wanted = [block for block in reader.profiles if options.profile in (None, block.name)]
+        self.profiles = reader.profiles
+
+    def chosen(self, name):
+        """The profile with this name, or the only one."""
+        wanted = [block for block in self.profiles if name in (None, block.name)]
         if len(wanted) != 1:
-            raise ImportFault(11, None, names)
-        self.chosen = wanted[0]
+            raise ImportFault(11, None, [block.name for block in self.profiles])
+        return wanted[0]
+
+
+class Import:
+    """What becomes of the text for a chosen profile."""
+
+    def __init__(self, reading, chosen, options):
+        self.text, self.variables, self.all, self.chosen, self.options = reading.text, reading.variables, reading.all, chosen, options
         self.rules, self.lines = [], []
 
     def line(self, part, effect, what=None):
@@ -291,7 +301,7 @@ class Import:
         changed = [start for start, _, _, effect in self.lines if effect in ("wider", "narrower")]
         if self.options.is_strict and changed:
             raise ImportFault(12, changed[0])
-        return canonical_text(Profile(self.chosen.name, tuple(self.rules))), self.account()
+        return Profile(self.chosen.name, tuple(self.rules))
 
     def outer(self, block):
         """A profile, which is the chosen one, has it, or is left out."""
@@ -328,13 +338,15 @@ class Import:
             self.line(block, effect)
             found.append((b"hat", block.start))
         if found and self.options.is_keep:
-            self.add_rules(dict(reversed(found)), min(at for _, at in found))
+            self.add_rules(dict(reversed(found)))
 
-    def add_rules(self, found, at):
-        written = [*ADDED_FIRST, *(last for what, last in ADDED_LAST.items() if what in found)]
-        for one in written:
+    def add_rules(self, found):
+        """`found` has the first part of each kind."""
+        written = [(one, min(found.values())) for one in ADDED_FIRST] + [(last, found[what]) for what, last in ADDED_LAST.items()
+                                                                         if what in found]
+        for one, at in written:
             path, _, letters = one.rpartition(b" ")
-            self.add(Rule(False, read_path(Cursor(path)), letters), at)
+            self.add(Rule(False, read_path(Cursor(path)), letters, at), at)
 
     # Rules.
 
@@ -351,7 +363,7 @@ class Import:
             self.line(whole, self.effect(loses, rule.is_deny))
             return
         for path in paths:
-            self.add(Rule(rule.is_deny, path, letters), rule.start)
+            self.add(Rule(rule.is_deny, path, letters, rule.start), rule.start)
         for part in parts:
             self.part(part, rule, words, own)
 
@@ -403,23 +415,71 @@ class Import:
     # The account.
 
     def account(self):
-        lines = [b"%s: %s: %s: %s\n" % (place(self.text, start), what, effect.encode(), shown(self.text[start:end]))
-                 for start, end, what, effect in self.lines]
-        return b"".join(lines)
+        if self.options.account == "none" or not self.lines:
+            return b""
+        is_all = self.options.account == "all"
+        lines = [b"%s: %s: %s: %s\n" % (place(self.text, start), what, effect.encode(),
+                                      shown(self.text[start:end] if is_all else self.line_at(start)))
+                 for start, end, what, effect in self.lines if is_all or effect != "exact"]
+        return b"".join(lines) + (b"" if is_all else self.sums())
+
+    def line_at(self, at):
+        """The beginning of the line of the text in which a span begins."""
+        start = self.text.rfind(b"\n", 0, at) + 1
+        return self.text[start:start + LONGEST_LINE].split(b"\n")[0]
+
+    def sums(self):
+        other = OTHER[self.options.subject]
+        effects = [effect for _, _, _, effect in self.lines]
+        counts = [f"{effects.count(effect)} {effect}" for effect in ("exact", "wider", "narrower", f"wider for {other}",
+                                                                     f"narrower for {other}")]
+        return f"rules {len(self.rules)}; reported: {', '.join(counts)}\n".encode()
 
 
 def place(text, at):
     return b"%d:%d" % (text.count(b"\n", 0, at) + 1, at - text.rfind(b"\n", 0, at))
 
 
+def without_control(text):
+    """Control bytes as question marks."""
+    return re.sub(rb"[\0-\x1f\x7f]", b"?", text)
+
+
 def shown(text):
-    text = re.sub(rb"[\0-\x1f\x7f]", b"?", re.sub(rb"[ \t\r\n]+", b" ", text.strip(b" \t\r\n")))
+    text = without_control(re.sub(rb"[ \t\r\n]+", b" ", text.strip(b" \t\r\n")))
     return text if len(text) <= LONGEST_SHOWN else text[:70] + b".."
 
 
+def mark_of(text, at):
+    """The file that the last line about an included one names before a place, or None."""
+    lines = [line for line in text[:at].split(b"\n")[:-1] if line.startswith(INCLUDED)]
+    return lines[-1][len(INCLUDED):] if lines else None
+
+
+def map_of(text, profile):
+    lines = []
+    for number, rule in enumerate(profile.rules, 1):
+        mark = mark_of(text, rule.start)
+        lines.append(b"%d %s%s\n" % (number, place(text, rule.start), b"" if mark is None else b" " + without_control(mark)))
+    return b"".join(lines)
+
+
 def import_text(text, options):
-    """The canonical text and the account; raises the fault."""
-    return Import(text, options).make()
+    """The profile and the account; raises the fault."""
+    reading = Reading(text, options)
+    made = Import(reading, reading.chosen(options.profile), options)
+    return made.make(), made.account()
+
+
+def import_all(text, options):
+    """A script with all profiles, and their accounts."""
+    reading, policies, accounts = Reading(text, options), [], []
+    for chosen in reading.profiles:
+        made = Import(reading, chosen, options)
+        policies.append(b"policy\n" + canonical_text(made.make()) + b".\n")
+        account = made.account()
+        accounts += [b"profile " + without_control(chosen.name) + b":\n" + account] if account else []
+    return b"".join(policies), b"".join(accounts)
 
 
 def refusal(text, fault):
@@ -428,5 +488,5 @@ def refusal(text, fault):
     if fault.at is not None:
         message += b" at " + place(text, fault.at)
     if fault.number == 11:
-        return b"\n".join([message] + [re.sub(rb"[\0-\x1f\x7f]", b"?", name) for name in fault.shown]) + b"\n"
+        return b"\n".join([message] + [without_control(name) for name in fault.shown]) + b"\n"
     return message + (b" (" + shown(fault.shown) + b")" if fault.shown else b"") + b"\n"

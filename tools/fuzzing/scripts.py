@@ -4,7 +4,8 @@ import errno
 import functools
 import re
 
-from texts import Fault, are_letters, in_order, read_profile
+import objects
+from texts import PERMISSIONS, Fault, are_letters, canonical_rule, in_order, read_profile
 from tree import PLANS, Change, Kind, Refused, Tree, components_of, test_path
 from verdicts import Automaton, TooManyStates, link_verdict, verdict
 
@@ -39,20 +40,27 @@ def plain_words(text):
     return [word for word in re.split(rb"[ \t]", text) if word]
 
 
-QUOTED_WORD = re.compile(rb'[ \t]*(?:"([^"]*)"(?=[ \t]|\Z)|([^ \t"][^ \t]*))')
+QUOTED_WORD = re.compile(rb'[ \t]*(?:"((?:[^"\\]|\\["\\n]|\\x[0-9A-Fa-f]{2})*)"(?=[ \t]|\Z)|([^ \t"][^ \t]*))')
+ESCAPE = re.compile(rb'\\(?:x(..)|(.))', re.DOTALL)
 
 
 def quoted_words(text):
-    """The words of a line of `test`; None if a quote is open, or something else follows it."""
+    """The words of a line of `test`; None if a quote is open, something else follows it, or a backslash in quotes is no escape."""
     words, at = [], 0
-    text = text.rstrip(BLANKS)
-    while at < len(text):
+    while text[at:].strip(BLANKS):
         found = QUOTED_WORD.match(text, at)
         if found is None:
             return None
-        words.append(found.group(1) if found.group(2) is None else found.group(2))
+        words.append(ESCAPE.sub(unescaped, found.group(1)) if found.group(2) is None else found.group(2))
         at = found.end()
     return words
+
+
+def unescaped(found):
+    """The byte that an escape stands for."""
+    if found.group(1) is not None:
+        return bytes.fromhex(found.group(1).decode())
+    return b"\n" if found.group(2) == b"n" else found.group(2)
 
 
 def read_lines(text, split):
@@ -176,22 +184,143 @@ def run(text, script, split=plain_words):
     return printed, None
 
 
-def test(text, script):
-    """What `test` prints for a script, the number of the line that stops it, or None, and whether all expectations hold."""
-    printed, expected, failed, last = [], 0, 0, b"nothing"
+class TestScript(Script):
+    """Answers the commands of `test`, too. `refused` says whether the last command was a policy that was refused."""
+
+    refused = False
+
+    def answer(self, line):
+        self.refused = False
+        if line.words is None or line.words[0] not in (b"judge", b"explain"):
+            return super().answer(line)
+        command, *words = line.words
+        return self.said(command, *words) if len(words) == 3 and are_letters(words[2]) else None
+
+    def publish(self, body):
+        before = self.policy.version
+        said = super().publish(body)
+        self.refused = self.policy.version == before
+        return said
+
+    def said(self, command, profile, name, asked):
+        """What the rules of a profile say about a name, and why."""
+        places = self.policy.profiles.get(profile)
+        if places is None:
+            return b"no profile"
+        if not name.startswith(b"/"):
+            return b"bad name"
+        record = places.hits(name)
+        said = verdict(record, in_order(asked))
+        if command == b"explain":
+            said += b"".join(reason(places.rules, letter, *record[2 * index:2 * index + 2])
+                             for index, letter in enumerate(PERMISSIONS) if letter in asked)
+        return said
+
+
+def reason(rules, letter, allows, denies):
+    """The reason for a permission, by the numbers of the least rules that allow and deny it, 0 where there is none."""
+    number = denies or allows
+    if number == 0:
+        return b"; %c: no rule" % letter
+    return b"; %c: %s by rule %d: %s" % (letter, b"denied" if denies else b"allowed", number, canonical_rule(rules[number - 1]))
+
+
+class Lines:
+    """What `test` writes, as lines."""
+
+    @staticmethod
+    def answer(_, answer):
+        return answer
+
+    @staticmethod
+    def failure(number, wanted, got):
+        """`wanted` is None for a refused policy."""
+        if wanted is None:
+            return b"%d: %s" % (number, shown(got))
+        return b"%d: expected %s, got %s" % (number, shown(wanted), b"nothing" if got is None else shown(got))
+
+    @staticmethod
+    def end(held, expected):
+        return b"%d of %d expectations hold" % (held, expected)
+
+
+class Objects:
+    """The same in JSON."""
+
+    @staticmethod
+    def answer(number, answer):
+        return objects.written({"answer": objects.text_of(answer), "line": number})[:-1]
+
+    @staticmethod
+    def failure(number, wanted, got):
+        members = {"expected": wanted and objects.text_of(wanted), "got": got and objects.text_of(got), "line": number}
+        return objects.written(members)[:-1]
+
+    @staticmethod
+    def end(held, expected):
+        return objects.written({"expectations": expected, "held": held})[:-1]
+
+
+class Tested:
+    """What `test` prints, line by line."""
+
+    def __init__(self, answers, written):
+        self.answers, self.written, self.printed = answers, written, []
+        self.expected = self.failed = 0
+        self.last, self.refused = None, None
+
+    def answered(self, number, answer, refused):
+        """An answer, and whether it refuses a policy."""
+        self.settle()
+        self.printed += [self.written.answer(number, answer)] if self.answers else []
+        self.last, self.refused = answer, number if refused else None
+
+    def settle(self):
+        """A policy that was refused directly before is an expectation that doesn't hold."""
+        if self.refused is not None:
+            self.fail(self.refused, None)
+        self.refused = None
+
+    def fail(self, number, wanted):
+        self.expected, self.failed = self.expected + 1, self.failed + 1
+        self.printed.append(self.written.failure(number, wanted, self.last))
+
+    def compare(self, number, wanted):
+        self.refused = None
+        if self.last is not None and is_answer(wanted, self.last):
+            self.expected += 1
+        else:
+            self.fail(number, wanted)
+
+    def end(self):
+        """Whether something is expected, and all of it holds."""
+        self.settle()
+        self.printed.append(self.written.end(self.expected - self.failed, self.expected))
+        return self.failed == 0 < self.expected
+
+
+def test(text, script, answers, written):
+    """What `test` prints for a script, the number of the line that stops it, or None, and whether the test holds."""
+    tested = Tested(answers, written)
     for line in read_lines(text, quoted_words):
         wanted = expectation(line.text)
         answer = script.answer(line) if wanted is None else wanted
         if not answer:
-            return printed, line.number, False
+            return tested.printed, line.number, False
         if wanted is None:
-            last = answer
-            continue
-        expected += 1
-        if wanted != last:
-            failed += 1
-            printed.append(b"%d: expected %s, got %s" % (line.number, shown(wanted), shown(last)))
-    return printed + [b"%d of %d expectations hold" % (expected - failed, expected)], None, failed == 0
+            tested.answered(line.number, answer, script.refused)
+        else:
+            tested.compare(line.number, wanted)
+    holds = tested.end()
+    return tested.printed, None, holds
+
+
+def is_answer(wanted, got):
+    """Whether an answer is the one that is wanted, or begins with the text before a last word `...`."""
+    if plain_words(wanted)[-1] != b"...":
+        return wanted == got
+    front = wanted[:-len(b"...")].rstrip(BLANKS)
+    return front == b"" or got == front or got.startswith((front + b" ", front + b"\t"))
 
 
 def expectation(text):

@@ -33,21 +33,6 @@ class Kind(enum.IntEnum):
     CONFLICT = 12
 
 
-SENTENCES = {
-    Kind.SYNTAX: "syntax error at byte {at}",
-    Kind.LEFT_OUT: "not supported: the {length} bytes from byte {at} on",
-    Kind.PERMISSION: "no permissions at byte {at}",
-    Kind.EMPTY_PERMISSIONS: "permissions are missing at byte {at}",
-    Kind.NOT_ABSOLUTE: "the path at byte {at} isn't absolute",
-    Kind.CLASS: "bad class at byte {at}",
-    Kind.GROUP: "unbalanced brace at byte {at}",
-    Kind.DEPTH: "groups nested too deep at byte {at}",
-    Kind.TOO_MANY_RULES: "too many rules at byte {at}",
-    Kind.TOO_MANY_ITEMS: "too many items at byte {at}",
-    Kind.CONFLICT: "append and write conflict at byte {at}",
-}
-
-
 class Fault(Exception):
     def __init__(self, kind, at, length=0):
         super().__init__(kind, at, length)

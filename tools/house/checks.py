@@ -1,12 +1,14 @@
 """All checks by their names, and running them."""
-from house import (crate_readmes, definitions, dependencies, document_counts, document_links, document_names, edits, families,
-                   preconditions, private_parts, quotes, sizes, tool_names, versions, wrong_bodies)
+from house import (completions, crate_readmes, definitions, dependencies, document_counts, document_links, document_names, edits,
+                   families, installation, manual_date, preconditions, private_parts, quotes, sizes, tool_names, versions, waits,
+                   wrong_bodies)
 from house.findings import without_allowed
 from house.repository import Repository
 
 CHECKS = {
     "readmes": (crate_readmes.check, "each crate has a README with its sections, which begins as its code does"),
     "dependencies": (dependencies.check, "crates.txt lists for each crate what it cites, and nothing else"),
+    "waits": (waits.check, "crates.txt counts the functions that may wait, as `rt verdict` does"),
     "families": (families.check, "docs/ARCHITECTURE.md has the families of crates.txt, each with its crates"),
     "names": (document_names.check, "what documents name in backquotes is there"),
     "links": (document_links.check, "links of documents lead to a file and a heading"),
@@ -21,6 +23,9 @@ CHECKS = {
     "lines": (sizes.columns, "lines of code, proofs and programs are under 140 columns"),
     "tools": (tool_names.check, "programs of tools/ are named alike, and are in tools/README.md"),
     "versions": (versions.check, "the version is the same everywhere"),
+    "manual-date": (manual_date.check, "the manual page has the date of its last change"),
+    "completions": (completions.check, "the completions know the commands and options of the program"),
+    "installed": (installation.check, "what is installed is there, and links of installed documents lead to what is installed"),
 }
 
 

@@ -1,6 +1,8 @@
-"""Whether crates.txt lists for each crate the libraries that its code, definitions and proofs cite, and no others.
+"""Whether crates.txt lists for each crate the libraries that its code, definitions and proofs cite, and no others, and each crate after
+those that it depends on.
 
-A crate with an entry too many is proved later, since it waits for that library, and again when that library changes.
+A crate with an entry too many is proved later, since it waits for that library, and again when that library changes. tools/build reads
+the crates in their order.
 """
 import functools
 import re
@@ -27,8 +29,8 @@ def cited(repository, crate):
 
 
 def check(repository):
-    """Each library that a crate lists but doesn't cite, and each that it cites but doesn't list."""
-    crates = repository.libraries
+    """Each library that a crate lists but doesn't cite, that it cites but doesn't list, or that is listed after it."""
+    crates, before = repository.libraries, set()
     for crate, libraries in crates.items():
         names, line = cited(repository, crate) - {crate}, repository.place_of(crate)
         for it in libraries:
@@ -36,6 +38,10 @@ def check(repository):
                 yield Finding("crates.txt", line, f"{crate} lists {it}, which it doesn't cite", f"{crate} {it}")
         for it in sorted(names & set(crates) - set(libraries)):
             yield Finding("crates.txt", line, f"{crate} cites {it}, which it doesn't list", f"{crate} {it}")
+        for it in libraries:
+            if it in crates and it not in before:
+                yield Finding("crates.txt", line, f"{crate} is listed before {it}, on which it depends", f"{crate} {it}")
+        before.add(crate)
     for crate in repository.crates:
         if crate not in crates:
             yield Finding(f"crates/{crate}", 1, f"crates.txt doesn't list {crate}", crate)

@@ -10,5 +10,7 @@ mod verdicts;
 
 pub use lines::{explanation, json_line, match_line, verdict_line};
 pub use name_values::name_value;
-pub use reasons::{reason_object, reasons_array, rule_object};
-pub use verdicts::{explanation_object, verdict_object};
+pub use reasons::{reason_object, reason_word, reasons_array, rule_object};
+pub use verdicts::{
+    denying_rule, explanation_object, missing_letters, verdict_object, verdict_word,
+};

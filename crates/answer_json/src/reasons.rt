@@ -124,7 +124,8 @@ fn rule_of_reason(
     }
 }
 
-fn reason_word(reason: Reason) -> &'static str
+/// The word of a reason: `allowed`, `denied`, or `no rule`.
+pub fn reason_word(reason: Reason) -> &'static str
     ensures { result.now ≡ reason_word reason }
 {
     match reason {

@@ -56,7 +56,7 @@ pub fn explanation_object(
 }
 
 /// The permissions for which there is no rule, by their letters, or `null`.
-pub(crate) fn missing_letters(alloc: Global, verdict: Verdict) -> Result<Value, NoMemory>
+pub fn missing_letters(alloc: Global, verdict: Verdict) -> Result<Value, NoMemory>
     ensures { IfOk result (λ value. view value ≡ missing_letters verdict) }
 {
     let Verdict::NoRule { missing } = verdict else {
@@ -69,7 +69,7 @@ pub(crate) fn missing_letters(alloc: Global, verdict: Verdict) -> Result<Value, 
 }
 
 /// The number of the rule that denies, if there is one.
-pub(crate) fn denying_rule(verdict: Verdict) -> Option<u16>
+pub fn denying_rule(verdict: Verdict) -> Option<u16>
     ensures { result ≡ denying_rule verdict }
 {
     match verdict {
@@ -78,7 +78,8 @@ pub(crate) fn denying_rule(verdict: Verdict) -> Option<u16>
     }
 }
 
-pub(crate) fn verdict_word(verdict: Verdict) -> &'static str
+/// The word of a verdict: `allowed`, `denied`, or `no rule`.
+pub fn verdict_word(verdict: Verdict) -> &'static str
     ensures { result.now ≡ verdict_word verdict }
 {
     match verdict {

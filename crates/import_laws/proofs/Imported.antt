@@ -23,7 +23,7 @@ use Rattle.import_profile.specs.Settled.{is_settled}
 use Rattle.import_profile.proofs.ImportLaws.{imported_readable, imported_settled}
 use Rattle.import_scope.specs.FirstFaults.{FirstFault, variables_within}
 use Rattle.import_scope.specs.Scopes as scopes
-use Rattle.import_scope.specs.Scopes.{Head, ScopeState, behind_all, can_be_said}
+use Rattle.import_scope.specs.Scopes.{Head, ScopeState, can_be_said}
 use Rattle.import_scope.specs.laws.Extensions.{AreNamed}
 use Rattle.apparmor_variables.specs.Variables.{Variable}
 use Rattle.apparmor_rules.specs.declared.subject.Subject.{Subject}
@@ -38,7 +38,7 @@ use Rattle.import_profile.specs.AddedRules.{queries, change_of_profile, change_o
 use Rattle.import_profile.specs.Faults.{which, too_many_rules, not_exact}
 use Rattle.import_profile.specs.FileRules.{PlacedRule, path_as, rule_text, subject_rule, item_reading, rules_at, rules_in}
 use Rattle.import_profile.specs.Imports.{ImportValue, Imports, Outcome, first_change, strict_outcome, counted_outcome, chosen_number}
-use Rattle.import_profile.specs.Imports.{choice_of, head_outcome, items_outcome, read_outcome}
+use Rattle.import_profile.specs.Imports.{choice_of, declared_by, head_outcome, items_outcome, items_seen, origin_of, read_outcome}
 use Rattle.import_profile.specs.Restated.{PlacedValue, cut_for, all_rules, restated_at, restated_rules}
 use Rattle.import_laws.proofs.Lists.{each_append, each_made, each_mapped}
 use Rattle.import_laws.proofs.Names.{all_named, named_at}
@@ -169,7 +169,11 @@ few_rules xs e =
     (slice_get_cases xs most_rules).1
 
 abbrev pub made : List ℕ → List Span → List PlacedValue → ImportValue
-made name spans rules = record { profile = record { name = name; rules = map (λ r. r.value) rules }; spans = spans }
+made name spans rules = record {
+  profile = record { name = name; rules = map (λ r. r.value) rules };
+  origins = map origin_of rules;
+  spans = spans;
+}
 
 abbrev pub where_counted : Bool → ImportValue → Option PlacedValue → Outcome
 where_counted strict value (Some rule) = Err (too_many_rules rule.place)
@@ -218,10 +222,11 @@ pub profile_imported : (options : ImportOptions) (text : List ℕ) (value : Impo
     IsImportedProfile value.profile
 profile_imported options text value i = at i.fault i.end i.first i.is
   where
-    at : (fault : Option scopes.Fault) (end : Option Stop) → FirstFault (scopes.at_start options.defines.now) i.items fault
+    at : (fault : Option scopes.Fault) (end : Option Stop) → FirstFault (scopes.at_start options.defines.now)
+        (items_seen options i.items) fault
         → Ok value ≡ read_outcome options (length text) i.items fault end → IsImportedProfile value.profile
     at (Some fault) end first e = absurd cc
     at None (Some stop) first e = absurd cc
     at None None first e =
-        of_items options (behind_all (scopes.at_start options.defines.now) i.items) i.items value
-        (all_named (scopes.at_start options.defines.now) i.items first tt) e
+        of_items options (declared_by options i.items) i.items value
+        (all_named (scopes.at_start options.defines.now) (items_seen options i.items) first tt) e

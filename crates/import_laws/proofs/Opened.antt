@@ -6,7 +6,7 @@ use Rattle.apparmor_text.specs.Texts.{ReadsItems}
 use Rattle.apparmor_words.specs.Steps.{Stop}
 use Rattle.import_spans.specs.declared.span.Span.{Span}
 use Rattle.import_scope.specs.Scopes as scopes
-use Rattle.import_scope.specs.Scopes.{Head, ScopeState, at_start, behind_all}
+use Rattle.import_scope.specs.Scopes.{Head, ScopeState, at_start}
 use Rattle.import_scope.specs.FirstFaults.{FirstFault, variables_within}
 use Rattle.apparmor_variables.specs.Variables.{Variable}
 use Rattle.rule_profile.specs.Limits.{most_rules}
@@ -14,11 +14,11 @@ use Rattle.import_profile.specs.declared.options.ImportOptions.{ImportOptions}
 use Rattle.import_profile.specs.Faults.{which, too_many_rules, not_exact}
 use Rattle.import_profile.specs.Restated.{PlacedValue, cut_for, all_rules, restated_rules}
 use Rattle.import_profile.specs.Imports.{ImportValue, Outcome, Imports, choice_of, chosen_number, first_change, strict_outcome}
-use Rattle.import_profile.specs.Imports.{head_outcome, read_outcome}
+use Rattle.import_profile.specs.Imports.{declared_by, head_outcome, items_seen, origin_of, read_outcome}
 
 -- after all items
 abbrev pub end_of : ImportOptions → List ItemValue → ScopeState
-end_of options items = behind_all (at_start options.defines.now) items
+end_of options items = declared_by options items
 
 abbrev pub asked : ImportOptions → Option (List ℕ)
 asked options = option_map (λ name. name.now) options.profile
@@ -35,6 +35,7 @@ placed_values options items number head =
 abbrev pub import_of : ImportOptions → List ItemValue → ℕ → Head → ImportValue
 import_of options items number head = record {
   profile = record { name = head.name; rules = map (λ r. r.value) (placed_values options items number head) };
+  origins = map origin_of (placed_values options items number head);
   spans = (cut_for (known options items head) (choice_of options head number) items).spans;
 }
 
@@ -43,7 +44,7 @@ pub record Opened (options : ImportOptions) (text : List ℕ) (value : ImportVal
   pub number : ℕ
   pub head : Head
   pub read : ReadsItems text items None
-  pub faultless : FirstFault (at_start options.defines.now) items None
+  pub faultless : FirstFault (at_start options.defines.now) (items_seen options items) None
   pub chosen : chosen_number (asked options) (end_of options items).profiles ≡ Some number
   pub found : slice_get (end_of options items).profiles number ≡ Some head
   pub is : value ≡ import_of options items number head
@@ -71,7 +72,7 @@ by_count strict made value None e = (refl, by_strict strict made value e)
 by_count strict made value (Some rule) e = absurd cc
 
 module _ (options : ImportOptions) (text : List ℕ) (value : ImportValue) (items : List ItemValue) (read : ReadsItems text items None)
-    (faultless : FirstFault (at_start options.defines.now) items None) where
+    (faultless : FirstFault (at_start options.defines.now) (items_seen options items) None) where
   abbrev s : ScopeState
   s = end_of options items
 
@@ -106,8 +107,8 @@ module _ (options : ImportOptions) (text : List ℕ) (value : ImportValue) (item
 
 by_faults : (options : ImportOptions) (text : List ℕ) (value : ImportValue) (items : List ItemValue) (fault : Option scopes.Fault)
     (end : Option Stop)
-    → ReadsItems text items end → FirstFault (at_start options.defines.now) items fault → Ok value ≡ read_outcome options
-    (length text) items fault end → Opened options text value
+    → ReadsItems text items end → FirstFault (at_start options.defines.now) (items_seen options items) fault
+    → Ok value ≡ read_outcome options (length text) items fault end → Opened options text value
 by_faults options text value items (Some fault) end read first e = absurd cc
 by_faults options text value items None (Some stop) read first e = absurd cc
 by_faults options text value items None None read first e =

@@ -20,10 +20,13 @@ use Rattle.import_spans.specs.declared.span.SpanKind.{SpanKind}
 use Rattle.import_spans.specs.declared.span.SpanKind.TheVariants.{Kept, Blank, Told}
 use Rattle.import_scope.specs.FirstFaults.{FirstFault, variables_within}
 use Rattle.import_scope.specs.Scopes.{ScopeState, at_start, behind_all}
+use Rattle.import_scope.specs.Overrides.{items_given}
 use Rattle.import_scope.specs.declared.assigned.Define.{Define}
+use Rattle.import_scope.specs.laws.Given.{nothing_given}
+use Rattle.apparmor_text.specs.Parts.{ItemValue}
 use Rattle.import_profile.specs.declared.options.ImportOptions.{ImportOptions}
 use Rattle.import_profile.specs.Imports.{ImportValue, Imports, only_one, chosen_number, changes_something, first_change, strict_outcome}
-use Rattle.import_profile.specs.Imports.{chosen_outcome, items_outcome}
+use Rattle.import_profile.specs.Imports.{chosen_outcome, declared_by, items_outcome, origin_of}
 use Rattle.import_profile.specs.Restated.{PlacedValue, cut_for, all_rules, restated_rules}
 use Rattle.import_laws.specs.Untold.{IsUntold}
 use Rattle.import_laws.proofs.Imported.{IsImported, IsImportedProfile, made, where_changed, where_counted, where_chosen}
@@ -86,11 +89,11 @@ module _ (p : ProfileValue) (h : IsImportedProfile p) (again : ImportOptions) wh
   abbrev own_spans : List Span
   own_spans = (cut_for (variables_within [] p.name) (first_choice again.subject) (canonical_items p)).spans
 
-  abbrev pub own_value : ImportValue
-  own_value = record { profile = p; spans = own_spans }
-
   abbrev placed : List PlacedValue
   placed = restated_rules again.subject (all_rules (variables_within [] p.name) (first_choice again.subject) (canonical_items p))
+
+  abbrev pub own_value : ImportValue
+  own_value = record { profile = p; origins = map origin_of placed; spans = own_spans }
 
   pub untold : Each (λ (span : Span). IsUntold span.kind) own_spans
   untold = (whole_cut (variables_within [] p.name) again.subject p h.rules).untold
@@ -107,8 +110,8 @@ module _ (p : ProfileValue) (h : IsImportedProfile p) (again : ImportOptions) wh
       ap (where_counted again.strict (made p.name own_spans placed)) (slice_get_past placed most_rules few)
       ∙ ap (λ (rules : List RuleValue). strict_outcome again.strict (record {
         profile = record { name = p.name; rules = rules };
-        spans =
-            own_spans;
+        origins = map origin_of placed;
+        spans = own_spans;
       })) same_rules
       ∙ stays_strict again.strict own_value (unchanged own_spans untold)
 
@@ -118,8 +121,9 @@ module _ (p : ProfileValue) (h : IsImportedProfile p) (again : ImportOptions) wh
   own_import none asked =
       let all = canonical_items p in
       let end = (all_behind p).0 in
-      let outcome : items_outcome again (behind_all (at_start again.defines.now) all) all ≡ Ok own_value =
-      ap (λ (d : List Define). items_outcome again (behind_all (at_start d) all) all) none
+      let outcome : items_outcome again (declared_by again all) all ≡ Ok own_value =
+      ap (λ (d : List Define). items_outcome again (behind_all (at_start d) (items_given again.overrides d all)) all) none
+      ∙ ap (λ (seen : List ItemValue). items_outcome again (behind_all (at_start []) seen) all) (nothing_given again.overrides all)
       ∙ ap (λ (s : ScopeState). items_outcome again s all) (all_behind p).1
       ∙ ap (where_chosen again (outside (head_of p.name) end) all) (is_chosen (option_map (λ name. name.now) again.profile) p.name asked)
       ∙ own_outcome in
@@ -128,6 +132,8 @@ module _ (p : ProfileValue) (h : IsImportedProfile p) (again : ImportOptions) wh
         end = None;
         fault = None;
         read = reads_canonical p (readable p h) (words_end p h);
-        first = subst (λ (d : List Define). FirstFault (at_start d) all None) (sym none) (faultless p h.name h.rules h.few);
+        first = subst (λ (d : List Define). FirstFault (at_start d) (items_given again.overrides d all) None) (sym none)
+            (subst (λ (seen : List ItemValue). FirstFault (at_start []) seen None) (sym (nothing_given again.overrides all))
+            (faultless p h.name h.rules h.few));
         is = sym outcome;
       }

@@ -5,11 +5,11 @@ use Rattle.apparmor_text.specs.declared.part.ItemKind.TheVariants as items
 use Rattle.apparmor_text.specs.Parts.{ItemValue}
 use Rattle.apparmor_text.specs.Texts.{ReadsItems}
 use Rattle.import_spans.specs.Modes.{mode_of_head}
-use Rattle.import_scope.specs.Scopes.{Head, at_start, behind_all}
+use Rattle.import_scope.specs.Scopes.{Head, at_start}
 use Rattle.import_scope.specs.FirstFaults.{FirstFault, variables_within}
 use Rattle.import_profile.specs.declared.options.ImportOptions.{ImportOptions}
 use Rattle.import_profile.specs.FileRules.{PlacedRule}
-use Rattle.import_profile.specs.Imports.{ImportValue, chosen_number, choice_of}
+use Rattle.import_profile.specs.Imports.{ImportValue, chosen_number, choice_of, declared_by, items_seen}
 use Rattle.import_profile.specs.Restated.{all_rules, cut_for}
 use Rattle.apparmor_variables.specs.Variables.{Variable}
 use Rattle.apparmor_rules.specs.declared.mode.Mode.{Mode}
@@ -33,7 +33,7 @@ plain_rules rules = map (λ r. r.rule) rules
 
 -- the variables that are in effect in the chosen profile
 abbrev pub variables_of : ImportOptions → List ItemValue → Head → List Variable
-variables_of options items head = variables_within (behind_all (at_start options.defines.now) items).declared head.name
+variables_of options items head = variables_within (declared_by options items).declared head.name
 
 -- This is the import of the text, and these are the chosen profile's rules, including those that AppArmor adds, and its mode.
 pub record IsImported (options : ImportOptions) (text : List ℕ) (value : ImportValue) (rules : List SubjectRule)
@@ -42,15 +42,15 @@ pub record IsImported (options : ImportOptions) (text : List ℕ) (value : Impor
   pub number : ℕ
   pub head : Head
   pub read : ReadsItems text items None
-  pub faultless : FirstFault (at_start options.defines.now) items None
-  pub chosen : chosen_number (option_map (λ name. name.now) options.profile) (behind_all (at_start options.defines.now) items).profiles
+  pub faultless : FirstFault (at_start options.defines.now) (items_seen options items) None
+  pub chosen : chosen_number (option_map (λ name. name.now) options.profile) (declared_by options items).profiles
       ≡ Some number
-  pub found : slice_get (behind_all (at_start options.defines.now) items).profiles number ≡ Some head
+  pub found : slice_get (declared_by options items).profiles number ≡ Some head
   pub name : value.profile.name ≡ head.name
   pub spans : value.spans
-      ≡ (cut_for (variables_within (behind_all (at_start options.defines.now) items).declared head.name)
+      ≡ (cut_for (variables_within (declared_by options items).declared head.name)
       (choice_of options head number) items).spans
   pub rules_are : rules
-      ≡ plain_rules (all_rules (variables_within (behind_all (at_start options.defines.now) items).declared head.name)
+      ≡ plain_rules (all_rules (variables_within (declared_by options items).declared head.name)
       (choice_of options head number) items)
   pub mode_is : mode ≡ mode_from number 0 items

@@ -1,5 +1,5 @@
 -- Outcomes that are reported.
-use Rattle.std.proofs.Common.{◌≡◌, ℕ, Bool, List, ◌++◌, Option, Result, Ok, Err, sym, ap, ◌∙◌, subst}
+use Rattle.std.proofs.Common.{◌≡◌, ℕ, Bool, List, ◌++◌, length, Option, Some, None, Result, Ok, Err, sym, ap, ◌∙◌, subst}
 use Rattle.std.specs.Result.{IsErrAnd}
 use Rattle.apparmor_text.specs.Parts.{ItemValue}
 use Rattle.import_spans.specs.declared.context.Choice.{Choice}
@@ -11,8 +11,13 @@ use Rattle.import_profile.specs.AddedRules.{added_rules}
 use Rattle.import_profile.specs.FileRules.{item_reading, rules_in}
 use Rattle.import_profile.specs.Restated.{PlacedValue, cut_for, restated_rules}
 use Rattle.import_profile.proofs.Gathers.{all_restated}
-use Rattle.import_profile.specs.Imports.{Outcome, counted_outcome, chosen_outcome}
-use Rattle.import_profile.specs.Told.{Fails, Tells}
+use Rattle.apparmor_words.specs.Steps.{Stop}
+use Rattle.import_scope.specs.Scopes as scopes
+use Rattle.import_profile.specs.declared.options.ImportOptions.{ImportOptions}
+use Rattle.import_profile.specs.AllImports.{IsFaultless, IsTextFault, TextValue, text_fault}
+use Rattle.import_profile.specs.Faults.{ImportFault}
+use Rattle.import_profile.specs.Imports.{Imports, Outcome, counted_outcome, chosen_outcome, declared_by, items_outcome, read_outcome}
+use Rattle.import_profile.specs.Told.{Fails, Tells, import_fault_value}
 use Rattle.import_profile.specs.declared.import.Imported.{Imported}
 use Rattle.import_profile.specs.declared.fault.ImportFailure.{ImportFailure}
 use Rattle.import_profile.specs.declared.fault.ImportFailure.TheVariants as failures
@@ -61,3 +66,46 @@ chosen_same strict name variables choice items lists cut spans change hat rules 
     rules new made behind in
     ap (λ (l : List Span). counted_outcome strict name l new) all_spans
     ∙ ap (λ (l : List PlacedValue). counted_outcome strict name end.spans l) all_new
+
+-- ---- texts that are refused
+
+refused_as : (options : ImportOptions) (all : ℕ) (items : List ItemValue) (fault : Option scopes.Fault) (end : Option Stop)
+    (f : ImportFault) → text_fault all fault end ≡ Some f → ◌≡◌ {A = Outcome} (Err f) (read_outcome options all items fault end)
+refused_as options all items (Some fault) end f e = cc
+refused_as options all items None (Some stop) f e = cc
+refused_as options all items None None f e = absurd cc
+
+-- a text with a fault isn't imported, whatever is requested
+pub import_refused : (options : ImportOptions) (text : List ℕ) (f : ImportFault) → IsTextFault options text f →
+    Imports options text (Err f)
+import_refused options text f h = record {
+  items = h.items;
+  end = h.end;
+  fault = h.fault;
+  read = h.read;
+  first = h.first;
+  is = refused_as options (length text) h.items h.fault h.end f h.is;
+}
+
+fails_so : (options : ImportOptions) (text : List ℕ) (failure : ImportFailure) → Fails (IsTextFault options text) failure →
+    Fails (λ fault. Imports options text (Err fault)) failure
+fails_so options text failures.NoMemory h = tt
+fails_so options text (failures.At fault) h = import_refused options text (import_fault_value fault) h
+
+pub tells_refused : (options : ImportOptions) (text : List ℕ) (r : Result Imported ImportFailure) (failure : ImportFailure) →
+    IsErrAnd r (λ told. told ≡ failure) → Fails (IsTextFault options text) failure → Tells (Imports options text) r
+tells_refused options text (Ok imported) failure is h = absurd is
+tells_refused options text (Err told) failure is h =
+    subst (Fails (λ fault. Imports options text (Err fault))) (sym is) (fails_so options text failure h)
+
+-- what is requested of a text without a fault is imported of it
+pub import_read : (options : ImportOptions) (text : List ℕ) (value : TextValue) (outcome : Outcome) → IsFaultless options text value →
+    outcome ≡ items_outcome options (declared_by options value.items) value.items → Imports options text outcome
+import_read options text value outcome h e = record {
+  items = value.items;
+  end = None;
+  fault = None;
+  read = h.read;
+  first = h.first;
+  is = e;
+}

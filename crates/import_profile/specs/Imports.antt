@@ -11,18 +11,21 @@ use Rattle.import_spans.specs.declared.span.SpanKind.TheVariants.{Kept, Blank, T
 use Rattle.import_scope.specs.Scopes as scopes
 use Rattle.import_scope.specs.Scopes.{Head, ScopeState, at_start, behind_all}
 use Rattle.import_scope.specs.FirstFaults.{FirstFault, variables_within}
+use Rattle.import_scope.specs.Overrides.{items_given}
 use Rattle.apparmor_variables.specs.Variables.{Variable}
 use Rattle.rule_globs.specs.Rules.{ProfileValue}
 use Rattle.rule_profile.specs.Limits.{most_rules}
+use Rattle.rule_profile.specs.declared.profile.Span.{Span as RuleSpan}
 use Rattle.apparmor_rules.specs.declared.effect.Extent.TheVariants.{Exact, Wider, Narrower}
 use Rattle.apparmor_rules.specs.declared.effect.Extent.{Extent}
 use Rattle.import_profile.specs.declared.options.ImportOptions.{ImportOptions}
 use Rattle.import_profile.specs.Faults.{ImportFault, stop_fault, scope_fault, which, too_many_rules, not_exact}
 use Rattle.import_profile.specs.Restated.{PlacedValue, cut_for, all_rules, restated_rules}
 
--- the profile, and the spans of the text: which parts are kept, blank, or reported
+-- the profile; where in the text each of its rules comes from; and the spans of the text: which parts are kept, blank, or reported
 pub record ImportValue : Type 0 where
   pub profile : ProfileValue
+  pub origins : List RuleSpan
   pub spans : List Span
 
 abbrev pub Outcome : Type 0
@@ -74,10 +77,18 @@ strict_outcome true value = elim (first_change value.spans) [
   | Some span ↦ Err (not_exact span.start)
 ]
 
+-- the place of what a rule comes from: nothing of the text, where that begins
+abbrev pub origin_of : PlacedValue → RuleSpan
+origin_of rule = record { start = rule.place; end = rule.place }
+
 abbrev pub counted_outcome : Bool → List ℕ → List Span → List PlacedValue → Outcome
 counted_outcome strict name spans rules = elim (slice_get rules most_rules) [
   | Some rule ↦ Err (too_many_rules rule.place)
-  | None ↦ strict_outcome strict (record { profile = record { name = name; rules = map (λ r. r.value) rules }; spans = spans })
+  | None ↦ strict_outcome strict (record {
+    profile = record { name = name; rules = map (λ r. r.value) rules };
+    origins = map origin_of rules;
+    spans = spans;
+  })
 ]
 
 abbrev pub chosen_outcome : Bool → List Variable → Choice → List ℕ → List ItemValue → Outcome
@@ -103,11 +114,19 @@ items_outcome options s items = elim (chosen_number (option_map (λ name. name.n
   | Some number ↦ head_outcome options s items number (slice_get s.profiles number)
 ]
 
+-- the items of the text as they declare variables and name profiles
+abbrev pub items_seen : ImportOptions → List ItemValue → List ItemValue
+items_seen options items = items_given options.overrides options.defines.now items
+
+-- what the text has declared, where it has no fault
+abbrev pub declared_by : ImportOptions → List ItemValue → ScopeState
+declared_by options items = behind_all (at_start options.defines.now) (items_seen options items)
+
 -- A fault in what the items say takes precedence over one that reading stopped at.
 abbrev pub read_outcome : ImportOptions → ℕ → List ItemValue → Option scopes.Fault → Option Stop → Outcome
 read_outcome options all items (Some fault) end = Err (scope_fault fault)
 read_outcome options all items None (Some stop) = Err (stop_fault all stop)
-read_outcome options all items None None = items_outcome options (behind_all (at_start options.defines.now) items) items
+read_outcome options all items None None = items_outcome options (declared_by options items) items
 
 -- the outcome of an import of the text
 pub record Imports (options : ImportOptions) (text : List ℕ) (outcome : Outcome) : Type 0 where
@@ -115,5 +134,5 @@ pub record Imports (options : ImportOptions) (text : List ℕ) (outcome : Outcom
   pub end : Option Stop
   pub fault : Option scopes.Fault
   pub read : ReadsItems text items end
-  pub first : FirstFault (at_start options.defines.now) items fault
+  pub first : FirstFault (at_start options.defines.now) (items_seen options items) fault
   pub is : outcome ≡ read_outcome options (length text) items fault end

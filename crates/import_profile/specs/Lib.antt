@@ -8,5 +8,6 @@ pub mod AddedRules
 pub mod Restated
 pub mod Faults
 pub mod Imports
+pub mod AllImports
 pub mod Told
 pub mod inner

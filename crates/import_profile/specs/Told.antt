@@ -1,6 +1,7 @@
 -- The code's faults and imports as those of the definitions.
 use Rattle.std.specs.Prelude.{map, Result, Ok, Err}
 use Rattle.rule_profile.specs.Profile.{profile_value}
+use Rattle.rule_profile.specs.RuleSpans.{profile_spans}
 use Rattle.import_profile.specs.declared.fault.ImportFault as told
 use Rattle.import_profile.specs.declared.fault.ImportFault.TheVariants.{Syntax, Include, LeftOut, Permissions, Undefined, Cycle, Declared}
 use Rattle.import_profile.specs.declared.fault.ImportFault.TheVariants.{Name, TooManyRules, TooLong, Which, NotExact, TooMuch}
@@ -27,7 +28,11 @@ import_fault_value (NotExact place) = not_exact place
 import_fault_value (TooMuch place) = too_much place
 
 abbrev pub import_value : Imported → ImportValue
-import_value imported = record { profile = profile_value imported.profile; spans = imported.spans.items }
+import_value imported = record {
+  profile = profile_value imported.profile;
+  origins = profile_spans imported.profile;
+  spans = imported.spans.items;
+}
 
 -- the predicate holds of what a function failed with, unless memory ran out
 abbrev pub Fails : (ImportFault → Type 0) → ImportFailure → Type 0

@@ -1,7 +1,10 @@
 //! The requested profile of a text.
 ghost use Rattle.std.specs.Prelude.{◌≡◌, IfOk, map, option_map, bytes_eq};
+ghost use Rattle.import_profile.specs.Faults.{which};
 ghost use Rattle.import_profile.specs.Imports.{fits, fitting, chosen_number};
+ghost use Rattle.import_profile.specs.Told.{Fails};
 
+use crate::fault::{ImportFailure, ImportFault};
 use import_scope::ProfileHead;
 use names::NoMemory;
 use std::alloc::{AllocError, Global};
@@ -53,7 +56,7 @@ pub(crate) fn chosen_number(
 }
 
 /// Returns the full names of all profiles.
-pub(crate) fn names_of(alloc: Global, heads: &[ProfileHead]) -> Result<Vec<Vec<u8>>, AllocError>
+fn names_of(alloc: Global, heads: &[ProfileHead]) -> Result<Vec<Vec<u8>>, AllocError>
     ensures { IfOk result (λ names. map (λ name. name.items) names.items ≡ map (λ head. head.name) heads.now) }
 {
     let mut names = Vec::new(alloc);
@@ -61,4 +64,14 @@ pub(crate) fn names_of(alloc: Global, heads: &[ProfileHead]) -> Result<Vec<Vec<u
         names.push(Vec::from_slice(alloc, head.name())?)?;
     }
     Ok(names)
+}
+
+/// Returns the fault that the request doesn't match exactly one profile.
+pub(crate) fn which<'t>(alloc: Global, heads: &[ProfileHead]) -> ImportFailure<'t>
+    ensures { Fails (λ fault. fault ≡ which (map (λ head. head.name) heads.now)) result }
+{
+    match names_of(alloc, heads) {
+        Ok(names) => ImportFailure::At(ImportFault::Which { names }),
+        Err(_) => ImportFailure::NoMemory,
+    }
 }

@@ -10,6 +10,7 @@
 mod added;
 mod choice;
 mod fault;
+mod flattened;
 mod gathered;
 mod import;
 mod laws;
@@ -18,15 +19,18 @@ mod options;
 mod path_laws;
 mod paths;
 mod placed;
+mod request;
 mod rule;
 mod settled;
 mod texts;
 
 pub use fault::{ImportFailure, ImportFault};
-pub use import::{Imported, import_profile};
+pub use flattened::FlattenedText;
+pub use import::Imported;
 pub use options::ImportOptions;
 pub use path_laws::{
     imported_paths_can_be_read, imported_paths_take_the_same,
     settled_paths_are_imported_as_they_are, tokens_tell_the_same,
 };
 pub use paths::imported_paths;
+pub use request::import_profile;

@@ -12,6 +12,8 @@ pub struct ImportOptions<'t> {
     pub subject: Subject,
     /// Values of variables, as if they preceded the text.
     pub defines: &'t [Define<'t>],
+    /// Whether these values replace what the text says of their variables: its assignments to them then count for nothing.
+    pub overrides: bool,
     /// Whether a text is refused if anything in it changes for the subject.
     pub strict: bool,
 }

@@ -6,7 +6,7 @@ ghost use Rattle.import_profile.specs.inner.GatheredRules.{one_too_many, restate
 use apparmor_rules::{RuleShape, Subject, fitting_letters, restated_perms};
 use names::{NoMemory, Perms, RuleKind};
 use rule_globs::RulePath;
-use rule_profile::{MOST_RULES, Rule};
+use rule_profile::{MOST_RULES, Rule, Span};
 use std::marker::Model;
 
 /// A rule, and the offset in the text of what it comes from.
@@ -33,6 +33,8 @@ impl PlacedRule {
     ghost use Rattle.std.specs.Prelude.{◌≡◌, true, IsTrue};
     ghost use Rattle.rule_profile.specs.Readable.{is_path, is_rule};
     ghost use Rattle.rule_profile.specs.Profile.{rule_value};
+    ghost use Rattle.rule_profile.specs.RuleSpans.{rule_span};
+    ghost use Rattle.import_profile.specs.Imports.{origin_of};
     ghost use Rattle.apparmor_rules.specs.Restatement.{fitting_letters, has_some};
 
     /// Returns the rule of this kind and this path that holds what a rule with these permissions holds.
@@ -54,12 +56,17 @@ impl PlacedRule {
         self.place
     }
 
-    /// Returns the rule itself.
+    /// Returns the rule itself, with its place as an empty span.
     pub(crate) fn into_rule(self) -> Rule
         ensures value { rule_value result ≡ self.value }
+        ensures origin { rule_span result ≡ origin_of self }
         ensures readable { IsTrue (is_rule (rule_value result)) }
     {
-        self.rule
+        let place = self.place;
+        self.rule.with_span(Span {
+            start: place,
+            end: place,
+        })
     }
 }
 

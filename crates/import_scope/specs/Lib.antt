@@ -1,5 +1,6 @@
 pub mod ItemWords
 pub mod Scopes
+pub mod Overrides
 pub mod FirstFaults
 pub mod Told
 pub mod inner

@@ -17,6 +17,6 @@ mod seen;
 pub use assigned::Define;
 pub use fault::{ScopeFailure, ScopeFault, ScopeFaultKind};
 pub use head::ProfileHead;
-pub use laws::texts_have_one_first_fault;
+pub use laws::{given_values_are_all_there_is, texts_have_one_first_fault};
 pub use scope::{Scope, scope_of};
 pub use seen::lists_of;

@@ -6,6 +6,7 @@ ghost use Rattle.import_scope.specs.Scopes.{ScopeState, at_start, innermost, is_
 ghost use Rattle.import_scope.specs.Scopes.{name_fault};
 ghost use Rattle.import_scope.specs.Scopes.{can_be_said, assigned, opened, closed, behind, head_fault};
 ghost use Rattle.import_scope.specs.Told.{fault_value};
+ghost use Rattle.import_scope.specs.Overrides.{is_given, kind_given, items_given};
 ghost use Rattle.import_scope.specs.inner.Outlines.{state_of, asked_of, asked_path, asks, Steps, last_state, head_stop, all_asked};
 
 use crate::assigned::{Assignments, Define};
@@ -172,18 +173,18 @@ impl<'t> Outline<'t> {
         Ok(())
     }
 
-    /// Goes past an item that has no fault of a declaration or of a name.
-    fn item(&mut self, alloc: Global, item: &Item<'t>) -> Result<(), ScopeFailure>
-        ensures steps { Steps result (head_fault item.now.kind (state_of self.old) item.now.parts) (state_of self.old) (state_of self.new)
-            (behind (state_of self.old) item.now) }
-        ensures asked { OnOk result (asked_of self.new ≡ asked_of self.old ++ asks item.now.kind (state_of self.old) item.now.parts) }
+    /// Goes past an item, as one of this kind, that has no fault of a declaration or of a name.
+    fn item(&mut self, alloc: Global, kind: ItemKind, item: &Item<'t>) -> Result<(), ScopeFailure>
+        ensures steps { Steps result (head_fault kind (state_of self.old) item.now.parts) (state_of self.old) (state_of self.new)
+            (behind (state_of self.old) (record { kind = kind; parts = item.now.parts })) }
+        ensures asked { OnOk result (asked_of self.new ≡ asked_of self.old ++ asks kind (state_of self.old) item.now.parts) }
         ensures same { OnErr result (asked_of self.new ≡ asked_of self.old) }
     {
         let past = self
             .before
             .checked_add(item.text().len())
             .ok_or(ScopeFailure::NoMemory)?;
-        match item.kind() {
+        match kind {
             ItemKind::Assignment => self.assign(alloc, item.parts())?,
             ItemKind::Profile => self.open_profile(alloc, false, item.parts())?,
             ItemKind::Hat => self.open_profile(alloc, true, item.parts())?,
@@ -196,19 +197,48 @@ impl<'t> Outline<'t> {
     }
 }
 
+/// Whether a value of the variable with this name is given.
+fn is_given(defines: &[Define<'_>], name: &[u8]) -> bool
+    ensures { result ≡ is_given defines.now name.now }
+{
+    defines.iter().any(|define| define.name == name)
+}
+
+/// The kind of an item, where the values that are given replace what the text says of their variables or don't.
+fn kind_given(overrides: bool, defines: &[Define<'_>], item: &Item<'_>) -> ItemKind
+    ensures { result ≡ kind_given overrides defines.now item.now.kind item.now.parts }
+{
+    let kind = item.kind();
+    match kind {
+        ItemKind::Assignment => {
+            if overrides && is_given(defines, assigned_name(item.parts())) {
+                ItemKind::Blank
+            } else {
+                kind
+            }
+        }
+        _ => kind,
+    }
+}
+
 /// The outline of the items up to the first that has a fault of a declaration or of a name, and that fault.
 pub(crate) fn outline_of<'t>(
     alloc: Global,
     defines: &[Define<'t>],
+    overrides: bool,
     items: &[Item<'t>],
 ) -> Result<(Outline<'t>, Option<ScopeFault>), AllocError>
-    ensures state { IfOk result (λ r. state_of r.0 ≡ last_state (at_start defines.now) items.now) }
-    ensures asked { IfOk result (λ r. asked_of r.0 ≡ all_asked (at_start defines.now) items.now) }
-    ensures stop { IfOk result (λ r. option_map fault_value r.1 ≡ head_stop (at_start defines.now) items.now) }
+    ensures state { IfOk result (λ r. state_of r.0
+        ≡ last_state (at_start defines.now) (items_given overrides defines.now items.now)) }
+    ensures asked { IfOk result (λ r. asked_of r.0
+        ≡ all_asked (at_start defines.now) (items_given overrides defines.now items.now)) }
+    ensures stop { IfOk result (λ r. option_map fault_value r.1
+        ≡ head_stop (at_start defines.now) (items_given overrides defines.now items.now)) }
 {
     let mut outline = Outline::new(alloc, defines)?;
     for item in items {
-        match outline.item(alloc, item) {
+        let kind = kind_given(overrides, defines, item);
+        match outline.item(alloc, kind, item) {
             Ok(()) => {}
             Err(ScopeFailure::NoMemory) => return Err(AllocError),
             Err(ScopeFailure::At(fault)) => return Ok((outline, Some(fault))),

@@ -12,7 +12,13 @@ pub struct SystemFiles<'a, H> {
 impl<H: Files> NamedTexts for SystemFiles<'_, H> {
     type Text = H::File;
 
+    type NewText = H::File;
+
     fn open(&self, name: &str) -> io::Result<H::File> {
         File::open(self.files, name)
+    }
+
+    fn create(&self, name: &str) -> io::Result<H::File> {
+        File::create(self.files, name)
     }
 }

@@ -4,7 +4,7 @@ ghost use Rattle.named_texts.specs.Given.{given_text};
 
 use crate::texts::NamedTexts;
 use std::io;
-use std::io::ErrorKind;
+use std::io::{ErrorKind, Sink};
 
 /// A text in memory, with its name.
 #[derive(Clone, Copy)]
@@ -24,6 +24,8 @@ impl<'a> NamedTexts for GivenTexts<'a> {
 
     type Text = &'a [u8];
 
+    type NewText = Sink;
+
     ghost known = { λ given name. given_text given.texts.now name };
 
     fn open(&self, name: &str) -> io::Result<&'a [u8]> {
@@ -31,6 +33,11 @@ impl<'a> NamedTexts for GivenTexts<'a> {
             Some(text) => Ok(text),
             None => Err(io::Error::from(ErrorKind::NotFound)),
         }
+    }
+
+    // Texts in memory can't be changed.
+    fn create(&self, _name: &str) -> io::Result<Sink> {
+        Err(io::Error::from(ErrorKind::ReadOnlyFilesystem))
     }
 }
 

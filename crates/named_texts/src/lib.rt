@@ -6,9 +6,11 @@
 mod files;
 mod given;
 mod late;
+mod late_new;
 mod texts;
 
 pub use files::SystemFiles;
 pub use given::{GivenText, GivenTexts};
 pub use late::LateText;
+pub use late_new::LateNewText;
 pub use texts::NamedTexts;

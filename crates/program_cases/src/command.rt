@@ -6,7 +6,7 @@ use std::alloc::{AllocError, Global};
 use std::io;
 use std::sync::Wait;
 use std::thread::Threads;
-use trace_arguments::{LineFault, command_line};
+use trace_arguments::{LineFault, command_line, spelled_out};
 use trace_program::{run_plain, run_words};
 
 /// Runs a command on a text: each part on what the part before it wrote, until one fails.
@@ -103,8 +103,13 @@ fn given_texts<'a>(alloc: Global, words: &[&'a str]) -> Result<Vec<GivenText<'a>
 
 /// What the words after the first one ask for, or what is wrong with them.
 fn parse(alloc: Global, words: &[&str]) -> io::Result<Ending> {
-    let asked = words.get(1..).unwrap_or(&[]);
-    match command_line(alloc, asked) {
+    let spelled = spelled_out(alloc, words.get(1..).unwrap_or(&[]))?;
+    parse_spelled(alloc, &spelled)
+}
+
+/// What these words ask for, in which no option is short, or what is wrong with them.
+fn parse_spelled(alloc: Global, words: &[&str]) -> io::Result<Ending> {
+    match command_line(alloc, words) {
         Ok(line) => {
             let line = format!(in alloc; "{line:?}\n")?;
             Ok(Ending::of_answers(alloc, line.as_bytes())?)

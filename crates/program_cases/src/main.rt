@@ -5,7 +5,7 @@
 //! line break before a command isn't part of the text: where the text ends with one, an empty line comes before the commands.
 //!
 //! - `$ aa-trace WORDS` runs the program with these words. A word is written between blanks, or between double quotes. A file that a
-//!   word names has this word as its text.
+//!   word names has this word as its text, and no file can be created.
 //! - `$ parse aa-trace WORDS` shows what the words ask for, or what the parser says of them.
 //! - `$ plain-bench N` runs a script as `aa-trace run --capacity N` does, on a bench in plain memory.
 //! - `$ ONE | TWO` gives what ONE writes to TWO. Between them may be `set PLACE BYTE`, which changes a byte of it, and `first N`,

@@ -10,7 +10,7 @@ use std::process::Abort;
 use std::sync::Wait;
 use std::test::Fail;
 use std::thread::Threads;
-use trace_commands::{check, match_name};
+use trace_commands::{check, match_name, match_quietly};
 use trace_report::{Format, Status};
 
 /// What `check` says of the image of [`PASSWD`].
@@ -127,6 +127,25 @@ fn answers_on_images_that_cannot_be_written(rt: HostRuntime) {
     expect_answer_cut(&rt, rt.alloc(), &["aa-trace", "check"], &image, CHECKED);
     let words = ["aa-trace", "match", "r", "/etc/passwd"];
     expect_answer_cut(&rt, rt.alloc(), &words, &image, b"allowed\nsteps 11\n");
+}
+
+/// A quiet verdict by an image is a status, and nothing is written.
+#[test]
+fn quiet_verdicts_by_images(rt: HostRuntime) {
+    let alloc = rt.alloc();
+    let image = image_of(&rt, alloc, PASSWD);
+    for (name, status) in [
+        ("/etc/passwd", Status::Done),
+        ("/etc/shadow", Status::Unmet),
+    ] {
+        let mut input = image.as_slice();
+        let mut faults = Vec::new(alloc);
+        assert_eq!(rt;
+            match_quietly(alloc, "r", name, &mut input, &mut faults),
+            status
+        );
+        assert!(rt; faults.is_empty());
+    }
 }
 
 /// Gives its bytes and then zeros, without end. Before each read that gives some, there is one that is interrupted.

@@ -89,6 +89,8 @@ fn rules_that_go_anyway(rt: HostRuntime) -> Result<(), Fail> {
             "{number}:1: owner: narrower for owners: owner @{{A}} r,\n"
         )?;
     }
+    told.push_str("rules 0; reported: 0 exact, 0 wider, 0 narrower, 0 wider for owners, ")?;
+    told.push_str("1100 narrower for owners\n")?;
     let words = ["aa-trace", "import", "--owner", "drop"];
     let ending = run(&rt, alloc, &words, text.as_bytes());
     assert!(rt; ending.is(Status::Done, b"profile \"p\" {\n}\n", told.as_bytes()));

@@ -9,6 +9,7 @@ use std::sync::Wait;
 use std::test::Fail;
 use std::thread::Threads;
 use trace_arguments::{LineFault, command_line};
+use trace_commands::{can_be_judged, judge_quietly};
 use trace_report::Status;
 
 #[test]
@@ -78,6 +79,26 @@ fn explanations_that_are_cut_off(rt: HostRuntime) {
     let whole = b"allowed\nr: allowed by rule 1, line 2: \"/etc/passwd\" r,\n";
     let ending = run_into_failing(&rt, rt.alloc(), &words, 5, 3);
     assert!(rt; ending.is(Status::OutputFailed, &whole[..15], b"refused: output\n"));
+}
+
+/// A quiet verdict is a status, and nothing is written.
+#[test]
+fn quiet_verdicts(rt: HostRuntime) {
+    let alloc = rt.alloc();
+    for (name, status) in [
+        ("/etc/passwd", Status::Done),
+        ("/etc/shadow", Status::Unmet),
+    ] {
+        let mut input = PASSWD.as_bytes();
+        let mut faults = Vec::new(alloc);
+        assert!(rt; can_be_judged("r", name));
+        assert_eq!(rt;
+            judge_quietly(alloc, "r", name, &mut input, &mut faults),
+            status
+        );
+        assert!(rt; faults.is_empty());
+    }
+    assert!(rt; !can_be_judged("r", "etc"));
 }
 
 /// Asserts how a run ends whose fault is taken in each number of calls: it isn't reported until it is flushed.

@@ -6,7 +6,7 @@ use std::alloc::Global;
 use std::test::Fail;
 use trace_commands::{compile, explain, judge, match_name};
 use trace_report::{Format, Status};
-use trace_test::run_test;
+use trace_test::{TestOptions, run_test};
 
 const WEB: &[u8] = b"profile web {\n  /** r,\n  deny /a w,\n}\n";
 
@@ -141,14 +141,14 @@ fn matched(rt: HostRuntime) {
 
 const SCRIPT: &[u8] = b"expect ok\nmkdir /a\nexpect ok 1\nexpect no\t\xff\n";
 
-fn test_in_memory(alloc: Global, format: Format) -> Option<Ending> {
+fn test_in_memory(alloc: Global, options: TestOptions) -> Option<Ending> {
     let mut bench = PlainBench::new(alloc, 9).ok()?;
     let mut input = SCRIPT;
     let mut answers = Vec::new(alloc);
     let mut faults = Vec::new(alloc);
     let status = run_test(
         alloc,
-        format,
+        options,
         &mut bench,
         &mut input,
         &mut answers,
@@ -182,7 +182,11 @@ fn tested(rt: HostRuntime) -> Result<(), Fail> {
         ),
     ];
     for (format, lines) in rows {
-        let ending = test_in_memory(rt.alloc(), format).ok_or("bench")?;
+        let options = TestOptions {
+            format,
+            answers: false,
+        };
+        let ending = test_in_memory(rt.alloc(), options).ok_or("bench")?;
         expect(&rt, &ending, Status::Unmet, &joined(rt.alloc(), &lines)?);
     }
     Ok(())

@@ -1,5 +1,7 @@
 pub mod Reasons
 pub mod Places
+pub mod Windows
+pub mod FaultWords
 pub mod FaultLines
 pub mod Explanations
 pub mod Told

@@ -4,15 +4,18 @@
 //! The definitions to believe are those in `specs/`.
 #![tactic(auto)]
 
+mod advice;
 mod explanation;
 mod hits;
 mod laws;
 mod place;
 mod reason;
 mod refusal;
+mod window;
 
 pub use explanation::{explain, reason_lines, reason_text, rule_place};
 pub use laws::{explanations_are_right, reasons_are_right, verdicts_agree_with_reasons};
 pub use place::{Place, place_at};
 pub use reason::{Reason, reason_of};
-pub use refusal::fault_lines;
+pub use refusal::{fault_lines, fault_lines_from, named};
+pub use window::place_lines;

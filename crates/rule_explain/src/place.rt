@@ -31,7 +31,7 @@ pub(crate) fn line_at(text: &[u8], offset: usize) -> (&[u8], &[u8])
 }
 
 /// The bytes before a place, and the others.
-fn parts_at(text: &[u8], offset: usize) -> (&[u8], &[u8])
+pub(crate) fn parts_at(text: &[u8], offset: usize) -> (&[u8], &[u8])
     ensures before { result.0.now ≡ take offset text.now }
     ensures behind { result.1.now ≡ drop offset text.now }
 {

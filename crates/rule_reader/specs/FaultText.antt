@@ -6,8 +6,7 @@ use Rattle.rule_reader.specs.declared.fault.ReadFault.TheVariants.{Group, Depth,
 
 abbrev pub fault_text : ReadFault → List ℕ
 fault_text (Syntax offset) = codes "syntax error at byte " ++ decimal offset
-fault_text (LeftOut offset len) = codes "not supported: the "
-    ++ (decimal len ++ (codes " bytes from byte " ++ (decimal offset ++ codes " on")))
+fault_text (LeftOut offset len) = codes "not supported: what is at byte " ++ decimal offset
 fault_text (Permission offset) = codes "no permissions at byte " ++ decimal offset
 fault_text (EmptyPermissions offset) = codes "permissions are missing at byte " ++ decimal offset
 fault_text (NotAbsolute offset) = codes "the path at byte " ++ (decimal offset ++ codes " isn't absolute")

@@ -82,8 +82,8 @@ impl fmt::Display for ReadFault {
     fn fmt<W: fmt::Write>(&self, f: &mut fmt::Formatter<W>) -> fmt::Result {
         match self {
             ReadFault::Syntax { offset } => write!(f, "syntax error at byte {offset}"),
-            ReadFault::LeftOut { offset, len } => {
-                write!(f, "not supported: the {len} bytes from byte {offset} on")
+            ReadFault::LeftOut { offset, .. } => {
+                write!(f, "not supported: what is at byte {offset}")
             }
             ReadFault::Permission { offset } => write!(f, "no permissions at byte {offset}"),
             ReadFault::EmptyPermissions { offset } => {

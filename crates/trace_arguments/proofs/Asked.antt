@@ -1,20 +1,28 @@
 -- What the parser found of what is given.
-use Rattle.std.proofs.Common.{◌≡◌, ◌≤◌, ◌∙◌, ◌&&◌, ℕ, Bool, true, [], Option, Some, ap, ap₂, refl, subst, sym}
+use Rattle.std.proofs.Common.{◌≡◌, ◌≤◌, ◌∙◌, ◌&&◌, ℕ, Bool, false, true, List, [], Option, Some, ap, arith, refl, subst, sym}
 use Rattle.std.specs.Prelude.{codes, is_some, option_map, unwrap_or}
-use Rattle.clap.proofs.WalkLemmas.{both, first_value-rows}
+use Rattle.clap.proofs.WalkLemmas.{both, first_value-rows, raw_values-rows}
 use Rattle.clap.specs.Walk.{Text}
 use Rattle.clap.specs.Words.{first_value, rows_of}
 use Rattle.clap.specs.declared.parser.matches.Found.{Found}
-use Rattle.trace_arguments.specs.CommandLine.{CommandForm, Given, LineValue, NumberOption, OptionForm, format_by}
-use Rattle.trace_arguments.specs.CommandLine.{format_of, has, json, no_text}
-use Rattle.trace_arguments.specs.CommandLine.{number_form, number_of, one_text, option_named, pair_command, text_given, text_of}
+use Rattle.trace_arguments.specs.Choices.{choice_said}
+use Rattle.trace_arguments.specs.CommandLine.{format_by, format_of, json, perms_and}
+use Rattle.trace_arguments.specs.Given.{CommandForm, Given, has, has_required, number_form, number_of, option_named, text_given}
+use Rattle.trace_arguments.specs.Given.{text_of, texts_given}
+use Rattle.trace_forms.specs.Forms.{ArgumentForm, NumberOption, OptionForm, many_texts, no_text, one_text}
+use Rattle.trace_arguments.specs.Values.{capacity_of, name_by}
+use Rattle.trace_arguments.specs.declared.questions.NameCommand.{NameCommand}
+use Rattle.trace_arguments.specs.declared.questions.NameCommand.TheVariants.{Explain, Judge, Match}
 use Rattle.trace_report.specs.declared.format.Format.{Format}
-use Rattle.trace_arguments.specs.inner.Parser.{IsAsked, IsGiven, IsLineBy, flag_read, forms_of, number_read}
+use Rattle.trace_arguments.specs.inner.Parser.{IsAsked, IsGiven, choice_found, flag_found, flag_read, forms_of, number_read, texts_found}
 
-abbrev text_form : Text → OptionForm
+abbrev pub text_form : Text → OptionForm
 text_form name = record { name = name; wants = one_text }
 
-abbrev flag_form : Text → OptionForm
+abbrev pub texts_form : Text → OptionForm
+texts_form name = record { name = name; wants = many_texts }
+
+abbrev pub flag_form : Text → OptionForm
 flag_form name = record { name = name; wants = no_text }
 
 module _ (command : CommandForm) (found : Found) (given : Given) (is : IsGiven command (rows_of found) given) where
@@ -70,27 +78,51 @@ module _ (command : CommandForm) (found : Found) (asked : IsAsked command (rows_
 
 -- ---- a command of PERMS and one more argument
 
-module _ (name second : Text) (line : Text → Text → Format → LineValue) where
-  abbrev pair : CommandForm
-  pair = pair_command name second line
+module _ (command : CommandForm) (second : Text) (arguments : command.arguments ≡ perms_and second) (found : Found)
+    (asked : IsAsked command (rows_of found)) where
+  are_given : has_required (perms_and second) asked.0 ≡ true
+  are_given = subst (λ (forms : List ArgumentForm). has_required forms asked.0 ≡ true) arguments asked.1.required
 
-  -- the second argument is found by its name
-  abbrev HasSecond : Type 0
-  HasSecond = option_named (forms_of pair) second ≡ Some (text_form second)
+  pub perms_asked : option_named (forms_of command) (codes "PERMS") ≡ Some (text_form (codes "PERMS"))
+      → is_some (first_value found (codes "PERMS")) ≡ true
+  perms_asked at = text_asked command found asked (codes "PERMS") at
+      (both (has asked.0 (codes "PERMS")) (has asked.0 second && true) are_given).0
 
-  pub pair_perms : (found : Found) → IsAsked pair (rows_of found) → is_some (first_value found (codes "PERMS")) ≡ true
-  pair_perms found asked = text_asked pair found asked (codes "PERMS") refl
-      (both (has asked.0 (codes "PERMS")) (has asked.0 second && true) asked.1.required).0
+  pub second_asked : option_named (forms_of command) second ≡ Some (text_form second) → is_some (first_value found second) ≡ true
+  second_asked at = text_asked command found asked second at
+      (both (has asked.0 second) true (both (has asked.0 (codes "PERMS")) (has asked.0 second && true) are_given).1).0
 
-  pub pair_second : (found : Found) → IsAsked pair (rows_of found) → HasSecond → is_some (first_value found second) ≡ true
-  pair_second found asked at = text_asked pair found asked second at
-      (both (has asked.0 second) true (both (has asked.0 (codes "PERMS")) (has asked.0 second && true) asked.1.required).1).0
+-- ---- the texts of a choice and of an import
 
-  pub pair_line : (found : Found) (perms other : Text) (format : Format) → HasSecond →
-      first_value found (codes "PERMS") ≡ Some perms
-      → first_value found second ≡ Some other → option_map format_by (flag_read (codes "json") (rows_of found)) ≡ Some format
-      → IsLineBy pair (rows_of found) (line perms other format)
-  pair_line found perms other format at first last how = λ given is.
-      ap₂ (λ (a b : Text). Some (line a b (format_of given))) (text_said pair found given is (codes "PERMS") perms refl first)
-      (text_said pair found given is second other at last)
-      ∙ ap (λ (f : Format). Some (line perms other f)) (format_said pair found given is format refl how)
+module _ (command : CommandForm) (found : Found) (given : Given) (is : IsGiven command (rows_of found) given) where
+  pub flag_there : (name : Text) → option_named (forms_of command) name ≡ Some (flag_form name) → flag_found found name ≡ has given name
+  flag_there name at = ap (λ (o : Option Bool). unwrap_or o false) (flag_is command found given is name at)
+
+  pub texts_there : (name : Text) → option_named (forms_of command) name ≡ Some (texts_form name)
+      → texts_found found name ≡ texts_given given name
+  texts_there name at = ap (λ (o : Option (List Text)). unwrap_or o []) (raw_values-rows found name) ∙ is.texts (texts_form name) at
+
+  -- the options of a choice are those of the command
+  pub record HasChoice : Type 0 where
+    pub profile : option_named (forms_of command) (codes "profile") ≡ Some (text_form (codes "profile"))
+    pub owner : option_named (forms_of command) (codes "owner") ≡ Some (text_form (codes "owner"))
+    pub subject : option_named (forms_of command) (codes "for") ≡ Some (text_form (codes "for"))
+    pub define : option_named (forms_of command) (codes "define") ≡ Some (texts_form (codes "define"))
+    pub override : option_named (forms_of command) (codes "override") ≡ Some (flag_form (codes "override"))
+
+  pub choice_there : HasChoice → choice_found found ≡ choice_said given
+  choice_there at = rw (
+    text_is command found given is (codes "profile") at.profile,
+    text_is command found given is (codes "owner") at.owner,
+    text_is command found given is (codes "for") at.subject,
+    texts_there (codes "define") at.define,
+    flag_there (codes "override") at.override,
+  ) refl
+
+-- ---- a question about one name has no tree
+
+pub no_capacity : (command : NameCommand) (perms name : Text) (format : Format) (quiet : Bool)
+    → capacity_of (name_by command perms name format quiet) ≤ 16384
+no_capacity Judge perms name format quiet = omega arith
+no_capacity Explain perms name format quiet = omega arith
+no_capacity Match perms name format quiet = omega arith

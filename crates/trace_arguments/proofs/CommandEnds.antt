@@ -12,10 +12,9 @@ use Rattle.clap.specs.Takes.{is_given}
 use Rattle.clap.specs.declared.error.kind.ErrorKind.TheVariants.{MissingRequiredArgument}
 use Rattle.clap.specs.declared.parser.matches.ValueSource.TheVariants.{DefaultValue}
 use Rattle.clap.proofs.WalkLemmas.{both}
-use Rattle.trace_arguments.specs.CommandLine.{ArgumentForm, CommandForm, Given, NumberOption, OptionForm}
-use Rattle.trace_arguments.specs.CommandLine.{Wants, has, has_required, is_number_of}
-use Rattle.trace_arguments.specs.CommandLine.{many_texts, no_text, one_number, one_text, option_named, text_given, texts_given}
-use Rattle.trace_arguments.specs.inner.Parser.{HasTexts, argument_form, flag_read, forms_of}
+use Rattle.trace_arguments.specs.Given.{CommandForm, Given, has, has_required, is_number_of, option_named, text_given, texts_given}
+use Rattle.trace_forms.specs.Forms.{ArgumentForm, NumberOption, OptionForm, Wants, many_texts, no_text, one_number, one_text}
+use Rattle.trace_arguments.specs.inner.Parser.{HasTexts, flag_read, forms_of, text_form, texts_wanted}
 use Rattle.trace_arguments.proofs.Numbers.{taken_most, taken_read}
 use Rattle.trace_arguments.proofs.LeafWalk.{help, leaf_shape}
 use Rattle.trace_arguments.proofs.OptionRules.{Are, are_sound, built_rule, built_rules, defaults_by, found_row}
@@ -217,24 +216,32 @@ places_quiet i (a ∷ arguments) rows =
     rw (place_quiet a i rows) (places_quiet (suc i) arguments (with_default rows (place a i)))
 
 rules_quiet : (options : List OptionForm) (arguments : List ArgumentForm) (rows : List Row)
-    → are_sound (options ++ map argument_form arguments) ≡ true
+    → are_sound (options ++ map text_form arguments) ≡ true
     → defaults_fault rows (map built_rule options ++ (places 1 arguments ++ help ∷ [])) ≡ []
 unfolding defaults_fault
 rules_quiet [] arguments rows sound = places_quiet 1 arguments rows
 rules_quiet (o ∷ options) arguments rows sound =
-    let others : List OptionForm = options ++ map argument_form arguments in
+    let others : List OptionForm = options ++ map text_form arguments in
     let here = both (is_sound o.wants) (not (is_some (option_named others o.name)) && are_sound others) sound in
     let rest = both (not (is_some (option_named others o.name))) (are_sound others) here.1 in
     rw (default_quiet o rows here.0) (rules_quiet options arguments (with_default rows (built_rule o)) rest.1)
 
+without_defaults : (again : Bool) → defaults_by (texts_wanted again) ≡ []
+without_defaults true = refl
+without_defaults false = refl
+
 places_end : (i : ℕ) (arguments : List ArgumentForm) (rows : List Row) → fold with_default rows (places i arguments ++ help ∷ [])
-    ≡ end_rows (map argument_form arguments) rows
+    ≡ end_rows (map text_form arguments) rows
 places_end i [] rows = refl
-places_end i (a ∷ arguments) rows = places_end (suc i) arguments (with_default rows (place a i))
+places_end i (a ∷ arguments) rows =
+    let same : with_default rows (place a i) ≡ with_default rows (built_rule (text_form a)) =
+    no_default rows (place a i) refl ∙ sym (no_default rows (built_rule (text_form a)) (without_defaults a.is_repeated)) in
+    ap (λ (rs : List Row). fold with_default rs (places (suc i) arguments ++ help ∷ [])) same
+    ∙ places_end (suc i) arguments (with_default rows (built_rule (text_form a)))
 
 rules_end : (options : List OptionForm) (arguments : List ArgumentForm) (rows : List Row)
     → fold with_default rows (map built_rule options ++ (places 1 arguments ++ help ∷ []))
-    ≡ end_rows (options ++ map argument_form arguments) rows
+    ≡ end_rows (options ++ map text_form arguments) rows
 rules_end [] arguments rows = places_end 1 arguments rows
 rules_end (o ∷ options) arguments rows = rules_end options arguments (with_default rows (built_rule o))
 
@@ -252,11 +259,33 @@ none_missing : (options : List OptionForm) (rows : List Row) (rest : List Rule)
 none_missing [] rows rest = refl
 none_missing (o ∷ options) rows rest = none_missing options rows rest
 
-argument_end : (rows : List Row) (name : Text) (said : Option Text)
+once_end : (rows : List Row) (name : Text) (said : Option Text)
     → row_named rows name ≡ ended (record { name = name; wants = one_text }) (rows_once name one_text said)
     → is_given name rows ≡ is_some said
-argument_end rows name None found = rw found refl
-argument_end rows name (Some text) found = rw found refl
+once_end rows name None found = rw found refl
+once_end rows name (Some text) found = rw found refl
+
+often_end : (rows : List Row) (name : Text) (texts : List Text)
+    → row_named rows name ≡ ended (record { name = name; wants = many_texts }) (rows_often name many_texts texts)
+    → is_given name rows ≡ is_some (slice_get texts 0)
+often_end rows name [] found = rw found refl
+often_end rows name (text ∷ texts) found = rw found refl
+
+-- a text is given if the list of texts has one
+first_text : (given : Given) (name : Text) → slice_get (texts_given given name) 0 ≡ text_given given name
+first_text [] name = refl
+first_text (pair ∷ given) name = go (bytes_eq pair.0 name) refl (first_text given name)
+  where
+    go : (same : Bool) → bytes_eq pair.0 name ≡ same → slice_get (texts_given given name) 0 ≡ text_given given name
+        → slice_get (texts_given (pair ∷ given) name) 0 ≡ text_given (pair ∷ given) name
+    go true is later = rw is refl
+    go false is later = rw is later
+
+argument_end : (rows : List Row) (given : Given) (name : Text) (again : Bool)
+    → row_named rows name ≡ ended (record { name = name; wants = texts_wanted again }) (row_by name (texts_wanted again) given)
+    → is_given name rows ≡ has given name
+argument_end rows given name true found = often_end rows name (texts_given given name) found ∙ ap is_some (first_text given name)
+argument_end rows given name false found = once_end rows name (text_given given name) found
 
 missing_if : (required given : Bool) (rest all : Bool) → rest ≡ not all
     → (required && not given || rest) ≡ not ((not required || given) && all)
@@ -278,8 +307,8 @@ pub required_end : (command : CommandForm) (rows : List Row) (given : Given) →
     → list_any (is_missing rows) (rules_for command) ≡ not (has_required command.arguments given)
 required_end command rows given sound ends =
     none_missing command.options rows (places 1 command.arguments ++ help ∷ [])
-    ∙ places_missing 1 command.arguments rows given (λ n a at. argument_end rows a.name (text_given given a.name)
-    (found_end (forms_of command) rows given (argument_form a) sound ends (argument_in command sound n a at)))
+    ∙ places_missing 1 command.arguments rows given (λ n a at. argument_end rows given a.name a.is_repeated
+    (found_end (forms_of command) rows given (text_form a) sound ends (argument_in command sound n a at)))
 
 -- the faults after the last word
 pub end_faults : (command : CommandForm) (rows end : List Row) (given : Given) (whole : Bool) → are_sound (forms_of command) ≡ true

@@ -4,20 +4,23 @@ use Rattle.std.proofs.Common.{refl, ap, ap₂, subst, sym, inl, inr, drop}
 use Rattle.std.specs.Prelude.{codes, is_some, option_map, unwrap_or}
 use Rattle.std.specs.Borrow.{Bor}
 use Rattle.std.specs.Box.{box_value}
-use Rattle.clap.proofs.WalkLemmas.{raw_values-rows}
 use Rattle.clap.specs.declared.parser.matches.ArgMatches.TheViews.{out-ArgMatches, out-SubCommand}
 use Rattle.clap.specs.declared.parser.matches.ArgMatches.{ArgMatches}
 use Rattle.clap.specs.declared.parser.matches.Found.{Found}
-use Rattle.clap.specs.Words.{App, HasKind, HasMatchesOf, Row, Text, fault_of, first_value, found_of, matched_of, raw_values}
+use Rattle.clap.specs.Words.{App, HasKind, HasMatchesOf, Row, Text, fault_of, first_value, found_of}
 use Rattle.clap.specs.Words.{is_simple_and_free, is_simple, rows_of, subcommand_name_of, subcommand_of, subcommand_rows_of}
 use Rattle.clap.specs.declared.error.Error.{Error}
-use Rattle.trace_arguments.specs.CommandLine.{CommandForm, LineValue, check, check_command, command_named}
-use Rattle.trace_arguments.specs.CommandLine.{commands, has, import_command, import_of}
-use Rattle.trace_arguments.specs.CommandLine.{line_of, many_texts, text_given, texts_given}
-use Rattle.trace_arguments.specs.inner.Parser.{GivesLine, IsAsked, IsLineBy, IsLineFaultOf, IsReadAs, flag_read, import_read, program_app}
+use Rattle.trace_arguments.specs.Choices.{ChoiceTexts, ImportTexts, choice_said, import_of, import_said}
+use Rattle.trace_arguments.specs.CommandLine.{command_named, commands, explain_command, explain_of, format_by, import_command}
+use Rattle.trace_arguments.specs.CommandLine.{line_of, plain_line}
+use Rattle.trace_arguments.specs.Given.{CommandForm, has, text_given, text_of}
+use Rattle.trace_arguments.specs.Values.{ImportValue, LineValue, import_text}
+use Rattle.trace_arguments.specs.inner.Parser.{GivesLine, IsAsked, IsLineBy, IsLineFaultOf, IsReadAs, choice_found, explain_read}
+use Rattle.trace_arguments.specs.inner.Parser.{flag_found}
+use Rattle.trace_arguments.specs.inner.Parser.{flag_read, import_found, import_read, program_app, text_found}
 use Rattle.trace_arguments.specs.declared.line.LineFault.{LineFault}
 use Rattle.trace_arguments.specs.declared.line.LineFault.TheVariants.{Usage, NoMemory}
-use Rattle.trace_arguments.proofs.Asked.{flag_asked, flag_is, text_is}
+use Rattle.trace_arguments.proofs.Asked.{choice_there, flag_there, text_is}
 use Rattle.trace_arguments.proofs.Named.{not_same}
 use Rattle.trace_arguments.proofs.LineWalk.{ReadsAs, flat, line_parsed, parsed_of, program_read}
 
@@ -84,6 +87,10 @@ entered_line app words m is quiet matches =
 
 -- ---- the line, by the name of its command
 
+some_map : {A : Type 0} (f : A → LineValue) (own : Option A) → is_some (option_map f own) ≡ is_some own
+some_map f None = refl
+some_map f (Some x) = refl
+
 -- the line of the words, by what was found after a command's name
 pub record HasLine (words : List Text) (name : Text) (found : Found) : Type 0 where
   pub form : CommandForm
@@ -144,45 +151,104 @@ module _ (words : List Text) (name : Text) (found : Found) (h : HasLine words na
     pub line_given : (value : LineValue) → IsLineBy command (rows_of found) value → line_of words ≡ Some value
     line_given value by = gives.2 ∙ by gives.0 gives.1
 
-  pub check_line : name ≡ codes "check" → line_of words ≡ Some check
-  check_line is = (gives check_command is refl).2
+  -- a fault of what is found is none of the line
+  pub own_fault : {A T : Type 0} (f : A → LineValue) (own : Option A) (e : LineFault) (r : Result T LineFault) →
+      option_map f own ≡ line_of words → (is_some own ≡ true → e ≡ NoMemory)
+      → IsErrAnd r (λ fault. fault ≡ e) → IfErr r (λ fault. is_some (line_of words) ≡ true → fault ≡ NoMemory)
+  own_fault f own e r is memory from =
+      if_err r (λ fault. fault ≡ e) (λ fault. is_some (line_of words) ≡ true → fault ≡ NoMemory)
+      (λ fault same some. same ∙ memory (sym (some_map f own) ∙ ap is_some is ∙ some)) from
+
+  abbrev noted : Bool → ImportValue → LineValue
+  noted verbose asked = record { command = import_text asked; verbose = verbose }
+
+  abbrev pub with_notes : ImportValue → LineValue
+  with_notes = noted (flag_found found (codes "verbose"))
+
+  abbrev texts : ChoiceTexts → Bool → Bool → Option Text → Option Text → ImportTexts
+  texts choice all strict account map = record { choice = choice; all = all; strict = strict; account = account; map = map }
 
   -- an import, by its options' texts
-  pub import_flag : name ≡ codes "import" → is_some (flag_read (codes "strict") (rows_of found)) ≡ true
-  import_flag is = flag_asked import_command found (asked import_command is refl) (codes "strict") refl
-
-  pub import_line : name ≡ codes "import" → import_read found ≡ line_of words
+  pub import_line : name ≡ codes "import" → option_map with_notes (import_read found) ≡ line_of words
   import_line is =
       let line = gives import_command is refl in
       let given = line.0 in
-      let profile : first_value found (codes "profile") ≡ text_given given (codes "profile") =
-      text_is import_command found given line.1 (codes "profile") refl in
-      let owner : first_value found (codes "owner") ≡ text_given given (codes "owner") =
-      text_is import_command found given line.1 (codes "owner") refl in
-      let define : unwrap_or (option_map raw_values (matched_of found (codes "define"))) [] ≡ texts_given given (codes "define") =
-      ap (λ (o : Option (List Text)). unwrap_or o []) (raw_values-rows found (codes "define"))
-      ∙ line.1.texts (record { name = codes "define"; wants = many_texts }) refl in
-      let strict : unwrap_or (flag_read (codes "strict") (rows_of found)) false ≡ has given (codes "strict") =
-      ap (λ (o : Option Bool). unwrap_or o false) (flag_is import_command found given line.1 (codes "strict") refl) in
-      let texts : List Text = unwrap_or (option_map raw_values (matched_of found (codes "define"))) [] in
-      let flag : Bool = unwrap_or (flag_read (codes "strict") (rows_of found)) false in
-      ap₂ (λ (a b : Option Text). import_of a b texts flag) profile owner
-      ∙ ap₂ (λ (a : List Text) (b : Bool). import_of (text_given given (codes "profile")) (text_given given (codes "owner")) a b)
-      define strict ∙ sym line.2
+      let choice : choice_found found ≡ choice_said given = choice_there import_command found given line.1 (record {
+        profile = refl;
+        owner = refl;
+        subject = refl;
+        define = refl;
+        override = refl;
+      }) in
+      let all = flag_there import_command found given line.1 (codes "all") refl in
+      let strict = flag_there import_command found given line.1 (codes "strict") refl in
+      let verbose = flag_there import_command found given line.1 (codes "verbose") refl in
+      let account : first_value found (codes "account") ≡ text_given given (codes "account") =
+      text_is import_command found given line.1 (codes "account") refl in
+      let map : first_value found (codes "map") ≡ text_given given (codes "map") =
+      text_is import_command found given line.1 (codes "map") refl in
+      let same : import_found found ≡ import_said given =
+      ap (λ (c : ChoiceTexts). texts c (flag_found found (codes "all")) (flag_found found (codes "strict"))
+      (first_value found (codes "account")) (first_value found (codes "map"))) choice
+      ∙ ap₂ (λ (a s : Bool). texts (choice_said given) a s (first_value found (codes "account")) (first_value found (codes "map"))) all
+      strict
+      ∙ ap₂ (λ (a m : Option Text). texts (choice_said given) (has given (codes "all")) (has given (codes "strict")) a m) account map in
+      ap (λ (v : Bool). option_map (noted v) (import_of (import_found found))) verbose
+      ∙ ap (λ (said : ImportTexts). option_map (noted (has given (codes "verbose"))) (import_of said)) same ∙ sym line.2
 
-  pub import_fault : {T : Type 0} (e : LineFault) (r : Result T LineFault) → name ≡ codes "import" →
-      (is_some (import_read found) ≡ true → e ≡ NoMemory)
-      → IsErrAnd r (λ fault. fault ≡ e) → IfErr r (λ fault. is_some (line_of words) ≡ true → fault ≡ NoMemory)
-  import_fault e r is memory from =
-      if_err r (λ fault. fault ≡ e) (λ fault. is_some (line_of words) ≡ true → fault ≡ NoMemory)
-      (λ fault same some. same ∙ memory (ap is_some (import_line is) ∙ some)) from
+  -- the import that is read, with its notes
+  pub import_given : name ≡ codes "import" → (asked : ImportValue) (verbose : Bool) → import_read found ≡ Some asked
+      → flag_read (codes "verbose") (rows_of found) ≡ Some verbose
+      → line_of words ≡ Some (record { command = import_text asked; verbose = verbose })
+  import_given is asked verbose read flag =
+      sym (import_line is) ∙ ap (option_map with_notes) read ∙ ap (λ (o : Option Bool). Some (noted (unwrap_or o false) asked)) flag
+
+  abbrev explained : Text → Text → Bool → Bool → ChoiceTexts → Option LineValue
+  explained perms name json flattened said = option_map plain_line (explain_of perms name (format_by json) flattened said)
+
+  pub explain_line : name ≡ codes "explain" → option_map plain_line (explain_read found) ≡ line_of words
+  explain_line is =
+      let line = gives explain_command is refl in
+      let given = line.0 in
+      let choice : choice_found found ≡ choice_said given = choice_there explain_command found given line.1 (record {
+        profile = refl;
+        owner = refl;
+        subject = refl;
+        define = refl;
+        override = refl;
+      }) in
+      let perms : text_found found (codes "PERMS") ≡ text_of given (codes "PERMS") =
+      ap (λ (o : Option Text). unwrap_or o []) (text_is explain_command found given line.1 (codes "PERMS") refl) in
+      let second : text_found found (codes "NAME") ≡ text_of given (codes "NAME") =
+      ap (λ (o : Option Text). unwrap_or o []) (text_is explain_command found given line.1 (codes "NAME") refl) in
+      let json = flag_there explain_command found given line.1 (codes "json") refl in
+      let flattened = flag_there explain_command found given line.1 (codes "flattened") refl in
+      ap₂ (λ (p n : Text). explained p n (flag_found found (codes "json")) (flag_found found (codes "flattened")) (choice_found found))
+      perms second
+      ∙ ap₂ (λ (j f : Bool). explained (text_of given (codes "PERMS")) (text_of given (codes "NAME")) j f (choice_found found)) json
+      flattened
+      ∙ ap (λ (said : ChoiceTexts). explained (text_of given (codes "PERMS")) (text_of given (codes "NAME")) (has given (codes "json"))
+      (has given (codes "flattened")) said) choice ∙ sym line.2
 
   -- there is no other command
-  pub known_command : (name ≡ codes "judge" → ⊥) → (name ≡ codes "explain" → ⊥) → (name ≡ codes "any" → ⊥) → (name ≡ codes "all" → ⊥) →
-      (name ≡ codes "diff" → ⊥) → (name ≡ codes "lint" → ⊥) → (name ≡ codes "run" → ⊥) → (name ≡ codes "test" → ⊥) →
-      (name ≡ codes "compile" → ⊥) → (name ≡ codes "check" → ⊥) → (name ≡ codes "match" → ⊥) → (name ≡ codes "steps" → ⊥) →
-      (name ≡ codes "storm" → ⊥) → (name ≡ codes "import" → ⊥) → ⊥
-  known_command no_judge no_explain no_any no_all no_diff no_lint no_run no_test no_compile no_check no_match no_steps no_storm no_import =
+  pub known_command : (name ≡ codes "judge" → ⊥) →
+      (name ≡ codes "explain" → ⊥) →
+      (name ≡ codes "any" → ⊥) →
+      (name ≡ codes "all" → ⊥) →
+      (name ≡ codes "diff" → ⊥) →
+      (name ≡ codes "lint" → ⊥) →
+      (name ≡ codes "run" → ⊥) →
+      (name ≡ codes "test" → ⊥) →
+      (name ≡ codes "compile" → ⊥) →
+      (name ≡ codes "check" → ⊥) →
+      (name ≡ codes "match" → ⊥) →
+      (name ≡ codes "steps" → ⊥) →
+      (name ≡ codes "storm" → ⊥) →
+      (name ≡ codes "import" → ⊥) →
+      (name ≡ codes "names" → ⊥) →
+      (name ≡ codes "audit" → ⊥) → ⊥
+  known_command no_judge no_explain no_any no_all no_diff no_lint no_run no_test no_compile no_check no_match no_steps
+      no_storm no_import no_names no_audit =
       let none : command_named commands name ≡ None =
       rw (
         not_same (codes "judge") name (λ same. no_judge (sym same)),
@@ -199,5 +265,7 @@ module _ (words : List Text) (name : Text) (found : Found) (h : HasLine words na
         not_same (codes "steps") name (λ same. no_steps (sym same)),
         not_same (codes "storm") name (λ same. no_storm (sym same)),
         not_same (codes "import") name (λ same. no_import (sym same)),
+        not_same (codes "names") name (λ same. no_names (sym same)),
+        not_same (codes "audit") name (λ same. no_audit (sym same)),
       ) refl in
       cc (none, h.form_is)

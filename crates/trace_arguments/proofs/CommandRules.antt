@@ -11,24 +11,27 @@ use Rattle.std.proofs.lemmas.Option.{slice_get-map}
 use Rattle.std.proofs.lemmas.Slice.Eq.{bytes_eq-Decides}
 use Rattle.clap.specs.Simple.{new_rule}
 use Rattle.clap.specs.Walk.{Rule, Text, arg_by_id, arg_by_index, arg_by_long, arg_by_short}
-use Rattle.clap.specs.declared.builder.action.ArgAction.TheVariants.{Set}
 use Rattle.clap.specs.declared.builder.value_parser.ValueParser.TheVariants.{String}
 use Rattle.clap.proofs.WalkLemmas.{both}
-use Rattle.trace_arguments.specs.CommandLine.{ArgumentForm, CommandForm, OptionForm, option_named}
-use Rattle.trace_arguments.specs.inner.Parser.{argument_form, forms_of}
+use Rattle.trace_arguments.specs.Given.{CommandForm, option_named}
+use Rattle.trace_forms.specs.Forms.{ArgumentForm, OptionForm}
+use Rattle.trace_arguments.specs.inner.Parser.{forms_of, text_form, texts_wanted}
 use Rattle.trace_arguments.proofs.Named.{find_made, or_false, same_name}
 use Rattle.trace_arguments.proofs.LeafWalk.{IsToldOrNone, help, help_long}
-use Rattle.trace_arguments.proofs.OptionRules.{are_sound, built_rule, is_sound}
+use Rattle.trace_arguments.proofs.OptionRules.{action_by, are_sound, built_rule, is_sound}
 
 -- an argument as it is built
-abbrev pub place : ArgumentForm → ℕ → Rule
-place argument i = record (new_rule argument.name) {
-  required = argument.is_required;
-  action = Some Set;
+abbrev pub place_by : Text → Bool → Bool → ℕ → Rule
+place_by name is_required is_repeated i = record (new_rule name) {
+  required = is_required;
+  action = Some (action_by (texts_wanted is_repeated));
   parser = Some String;
   range = Some (record { start_inclusive = 1; end_inclusive = 1 });
   index = Some i;
 }
+
+abbrev pub place : ArgumentForm → ℕ → Rule
+place argument i = place_by argument.name argument.is_required argument.is_repeated i
 
 abbrev pub places : ℕ → List ArgumentForm → List Rule
 places i [] = []
@@ -155,29 +158,36 @@ found_at (p ∷ forms) (suc n) o sound is =
         absurd (cc (rw there at alone))
     go false e later alone = later
 
+-- an argument's name is no other's, and the others are sound
+pub rest_sound : (b : ArgumentForm) (forms : List OptionForm) → are_sound (text_form b ∷ forms) ≡ true
+    → (not (is_some (option_named forms b.name)) ≡ true) × (are_sound forms ≡ true)
+rest_sound b forms sound =
+    let here = both (is_sound (text_form b).wants) (not (is_some (option_named forms b.name)) && are_sound forms) sound in
+    both (not (is_some (option_named forms b.name))) (are_sound forms) here.1
+
 -- the rule of an argument is found by its name
 place_at : (i n : ℕ) (arguments : List ArgumentForm) (a : ArgumentForm) (rest : List Rule)
-    → are_sound (map argument_form arguments) ≡ true → slice_get arguments n ≡ Some a
+    → are_sound (map text_form arguments) ≡ true → slice_get arguments n ≡ Some a
     → (j : ℕ) × (find (λ r. bytes_eq r.id a.name) (places i arguments ++ rest) ≡ Some (place a j))
 place_at i n [] a rest sound is = absurd (cc is)
 place_at i zero (b ∷ arguments) a rest sound is =
     let it : b ≡ a = cc is in
     (i, rw (← it, same_name b.name) refl)
 place_at i (suc n) (b ∷ arguments) a rest sound is =
-    let forms : List OptionForm = map argument_form arguments in
-    let later : are_sound forms ≡ true = (both (not (is_some (option_named forms b.name))) (are_sound forms) sound).1 in
-    let alone = (both (not (is_some (option_named forms b.name))) (are_sound forms) sound).0 in
-    let there : option_named forms a.name ≡ Some (argument_form a) =
-    found_at forms n (argument_form a) later (slice_get-map argument_form arguments n ∙ ap (option_map argument_form) is) in
+    let forms : List OptionForm = map text_form arguments in
+    let later : are_sound forms ≡ true = (rest_sound b forms sound).1 in
+    let alone = (rest_sound b forms sound).0 in
+    let there : option_named forms a.name ≡ Some (text_form a) =
+    found_at forms n (text_form a) later (slice_get-map text_form arguments n ∙ ap (option_map text_form) is) in
     go (bytes_eq b.name a.name) refl there alone (place_at (suc i) n arguments a rest later is)
   where
-    go : (same : Bool) → bytes_eq b.name a.name ≡ same → option_named (map argument_form arguments) a.name ≡ Some (argument_form a)
-        → not (is_some (option_named (map argument_form arguments) b.name)) ≡ true
+    go : (same : Bool) → bytes_eq b.name a.name ≡ same → option_named (map text_form arguments) a.name ≡ Some (text_form a)
+        → not (is_some (option_named (map text_form arguments) b.name)) ≡ true
         → (j : ℕ) × (find (λ r. bytes_eq r.id a.name) (places (suc i) arguments ++ rest) ≡ Some (place a j))
         → (j : ℕ) × (cond same (Some (place b i)) (find (λ r. bytes_eq r.id a.name) (places (suc i) arguments ++ rest)) ≡ Some (place a j))
     go true e there alone found =
-        let same : option_named (map argument_form arguments) b.name ≡ Some (argument_form a) =
-        ap (option_named (map argument_form arguments)) ((bytes_eq-Decides b.name a.name).0 e) ∙ there in
+        let same : option_named (map text_form arguments) b.name ≡ Some (text_form a) =
+        ap (option_named (map text_form arguments)) ((bytes_eq-Decides b.name a.name).0 e) ∙ there in
         absurd (cc (rw same at alone))
     go false e there alone found = found
 
@@ -185,25 +195,25 @@ module _ (command : CommandForm) (sound : are_sound (forms_of command) ≡ true)
   -- an option of a command is one of its forms
   pub option_in : (name : Text) (o : OptionForm) → option_named command.options name ≡ Some o
       → option_named (forms_of command) name ≡ Some o
-  option_in name o is = find-append (λ (x : OptionForm). bytes_eq x.name name) command.options (map argument_form command.arguments)
+  option_in name o is = find-append (λ (x : OptionForm). bytes_eq x.name name) command.options (map text_form command.arguments)
       ∙ rw is refl
 
-  pub arguments_sound : are_sound (map argument_form command.arguments) ≡ true
-  arguments_sound = sound_rest command.options (map argument_form command.arguments) sound
+  pub arguments_sound : are_sound (map text_form command.arguments) ≡ true
+  arguments_sound = sound_rest command.options (map text_form command.arguments) sound
 
   module _ (n : ℕ) (a : ArgumentForm) (at : slice_get command.arguments n ≡ Some a) where
-    form_at : slice_get (map argument_form command.arguments) n ≡ Some (argument_form a)
-    form_at = slice_get-map argument_form command.arguments n ∙ ap (option_map argument_form) at
+    form_at : slice_get (map text_form command.arguments) n ≡ Some (text_form a)
+    form_at = slice_get-map text_form command.arguments n ∙ ap (option_map text_form) at
 
-    named : option_named (map argument_form command.arguments) a.name ≡ Some (argument_form a)
-    named = found_at (map argument_form command.arguments) n (argument_form a) arguments_sound form_at
+    named : option_named (map text_form command.arguments) a.name ≡ Some (text_form a)
+    named = found_at (map text_form command.arguments) n (text_form a) arguments_sound form_at
 
     no_option : option_named command.options a.name ≡ None
-    no_option = apart command.options (map argument_form command.arguments) a.name sound (ap is_some named)
+    no_option = apart command.options (map text_form command.arguments) a.name sound (ap is_some named)
 
     -- an argument of a command is one of its forms
-    pub argument_in : option_named (forms_of command) a.name ≡ Some (argument_form a)
-    argument_in = find-append (λ (x : OptionForm). bytes_eq x.name a.name) command.options (map argument_form command.arguments)
+    pub argument_in : option_named (forms_of command) a.name ≡ Some (text_form a)
+    argument_in = find-append (λ (x : OptionForm). bytes_eq x.name a.name) command.options (map text_form command.arguments)
         ∙ rw (no_option, named) refl
 
     -- an option has another name

@@ -1,5 +1,5 @@
 -- The outcome of clap's walk over the words after a command.
-use Rattle.std.proofs.Common.{◌≡◌, ◌∙◌, ◌+◌, ◌<◌, ◌≤◌, ◌++◌, ℕ, Bool, true, false, List, [], ◌∷◌, Option, Some, None}
+use Rattle.std.proofs.Common.{◌≡◌, ◌∙◌, ◌+◌, ◌<◌, ◌≤◌, ◌++◌, ◌||◌, ℕ, Bool, true, false, not, List, [], ◌∷◌, Option, Some, None}
 use Rattle.std.proofs.Common.{length, refl, ap, ap₂}
 use Rattle.std.proofs.Common.{add-one, arith, subst, sym, inl, inr}
 use Rattle.std.proofs.Math.Bool.{and-false}
@@ -21,20 +21,22 @@ use Rattle.clap.specs.Faults.{check_fault, defaults_fault, long_fault, option_fa
 use Rattle.clap.specs.Faults.{positional_fault, settle_fault, step_fault, stray_fault}
 use Rattle.clap.specs.Faults.{turn_fault, use_fault, walk_fault}
 use Rattle.clap.specs.declared.error.kind.ErrorKind.TheVariants.{InvalidValue, MissingRequiredArgument, TooManyValues, UnknownArgument}
-use Rattle.trace_arguments.specs.CommandLine.{ArgumentForm, CommandForm, Given, OptionForm, Wants, arguments_by, given_by, has_required}
-use Rattle.trace_arguments.specs.CommandLine.{is_option, is_wanted, many_texts, no_text, one_argument}
-use Rattle.trace_arguments.specs.CommandLine.{one_more, one_number, one_text, option_named}
-use Rattle.trace_arguments.specs.inner.Parser.{argument_form, forms_of}
+use Rattle.trace_arguments.specs.Given.{CommandForm, Given, arguments_by, given_by, has, has_required, is_option, is_wanted, may_come}
+use Rattle.trace_arguments.specs.Given.{one_argument, one_more, option_named}
+use Rattle.trace_forms.specs.Forms.{ArgumentForm, OptionForm, Wants, many_texts, no_text, one_number, one_text}
+use Rattle.trace_arguments.specs.inner.Parser.{forms_of, text_form, texts_wanted}
 use Rattle.trace_arguments.proofs.Named.{found_name, or_false, same_name}
 use Rattle.trace_arguments.proofs.WordKinds.{IsLongWord, IsPlainWord, IsShortWord, is_dashes, is_long, is_plain, is_short, kind_of_word}
 use Rattle.trace_arguments.proofs.LeafWalk.{ComesTo, Some_of, held, help_short, in_first, leaf_shape, long_is_fault, long_turn}
-use Rattle.trace_arguments.proofs.LeafWalk.{no_names, or_else-nil, plain_turn, plain_walked, short_turn, step, stop, some_fault, walk_at}
+use Rattle.trace_arguments.proofs.LeafWalk.{no_names, or_else-nil, plain_turn, plain_walked, short_turn, step, stop, some_fault}
+use Rattle.trace_arguments.proofs.LeafWalk.{waits_at, waits_for_any}
+use Rattle.trace_arguments.proofs.LeafWalk.{walk_at}
 use Rattle.trace_arguments.proofs.GivenWords.{alone_first, given_after, joined_first, name_first, plain_first, short_first, unknown_first}
 use Rattle.trace_arguments.proofs.CommandEnds.{EndsAs, command_end, end_faults}
 use Rattle.trace_arguments.proofs.CommandRules.{argument_in, by_index, by_long, by_option, by_place, by_short}
-use Rattle.trace_arguments.proofs.CommandRules.{is_few, no_long, option_in, place}
+use Rattle.trace_arguments.proofs.CommandRules.{is_few, no_long, option_in, place, place_by}
 use Rattle.trace_arguments.proofs.CommandRules.{arguments_sound, other_option, rules_for}
-use Rattle.trace_arguments.proofs.NextArgument.{AreFirst, first_kept, first_more, next_is, next_missing, none_first}
+use Rattle.trace_arguments.proofs.NextArgument.{AreFirst, first_kept, first_more, next_is, next_open, none_first, place_after}
 use Rattle.trace_arguments.proofs.OptionRules.{Are, are_sound, bad, built_rule, count_by, good, more_given, none_are}
 use Rattle.trace_arguments.proofs.OptionRules.{one_more_if, said_values}
 use Rattle.trace_arguments.proofs.OptionRules.{use_of}
@@ -255,50 +257,81 @@ module _ (command : CommandForm) (sound : are_sound (forms_of command) ≡ true)
           omega (arith, below, bound)
 
       -- the walk at its place
-      abbrev taken : Bool → Bool → ℕ → Held → Walk
-      taken several is_trailing position settled = record {
+      abbrev taken : Bool → Bool → Bool → ℕ → Held → Walk
+      taken again several is_trailing position settled = record {
         held = pushed a.name word (if several then here else settled);
-        waiting = idle;
+        waiting = waits_at again;
         position = position;
         is_trailing = is_trailing;
         stopped = None;
       }
 
+      -- the walk to its place, by whether it may be given again
+      placed_at : (again is_trailing : Bool)
+          → to_positional rules (Some (place_by a.name a.is_required again (n + 1))) word (stands idle n is_trailing here) here
+          ≡ stands (waits_at again) (place_after again n) is_trailing after
+      placed_at true is_trailing =
+          ap₂ (λ (several trailing : Bool). taken true several trailing (n + 1) (settled rules here))
+          (and-false (is_pending (place_by a.name a.is_required true (n + 1)) p)) (or_false is_trailing)
+          ∙ ap (taken true false is_trailing (n + 1)) holds.settles
+      placed_at false is_trailing =
+          ap₂ (λ (several trailing : Bool). taken false several trailing (min (n + 1 + 1) usize_max) (settled rules here))
+          (and-false (is_pending (place_by a.name a.is_required false (n + 1)) p)) (or_false is_trailing)
+          ∙ ap₂ (taken false false is_trailing) (min-eq_left within) holds.settles
+          ∙ ap (λ (k : ℕ). stands idle k is_trailing after) (add-one n)
+
       to_place : (is_trailing : Bool) → to_positional rules (arg_by_index rules (n + 1)) word (stands idle n is_trailing here) here
-          ≡ stands idle (n + 1) is_trailing after
+          ≡ stands (waits_at a.is_repeated) (place_after a.is_repeated n) is_trailing after
       to_place is_trailing =
           let rule : arg_by_index rules (n + 1) ≡ Some (place a (n + 1)) =
           by_index command n ∙ ap (option_map (λ (x : ArgumentForm). place x (n + 1))) found in
           ap (λ (r : Option Rule). to_positional rules r word (stands idle n is_trailing here) here) rule
-          ∙ ap₂ (λ (several trailing : Bool). taken several trailing (min (n + 1 + 1) usize_max) (settled rules here))
-          (and-false (is_pending (place a (n + 1)) p)) (or_false is_trailing)
-          ∙ ap₂ (taken false is_trailing) (min-eq_left within) holds.settles
+          ∙ placed_at a.is_repeated is_trailing
 
-      settles_by : settle_fault rules false after ≡ use_fault false (built_rule (argument_form a)) (word ∷ []) holds.rows
-      settles_by = rw (by_place command sound n a found).1 refl
+      -- a use of it is that of an option with a text
+      fault_by : (again : Bool) (i : ℕ) → use_fault false (place_by a.name a.is_required again i) (word ∷ []) holds.rows
+          ≡ use_fault false (built_rule (record { name = a.name; wants = texts_wanted again })) (word ∷ []) holds.rows
+      fault_by true i = refl
+      fault_by false i = refl
 
-      settles_to : settled rules after ≡ held (used (built_rule (argument_form a)) (word ∷ []) holds.rows) None
-      settles_to = rw (by_place command sound n a found).1 refl
+      used_by : (again : Bool) (i : ℕ) → used (place_by a.name a.is_required again i) (word ∷ []) holds.rows
+          ≡ used (built_rule (record { name = a.name; wants = texts_wanted again })) (word ∷ []) holds.rows
+      used_by true i = refl
+      used_by false i = refl
 
-      more_first : AreFirst more (n + 1) arguments
-      more_first = subst (λ (k : ℕ). AreFirst more k arguments) (sym (add-one n))
-          (first_more given word n arguments a (arguments_sound command sound) found holds.first)
+      settles_by : settle_fault rules false after ≡ use_fault false (built_rule (text_form a)) (word ∷ []) holds.rows
+      settles_by =
+          let at = by_place command sound n a found in
+          rw at.1 (fault_by a.is_repeated at.0)
 
-      holds_more : Holds more (n + 1) after
-      holds_more = elim (use_of (forms_of command) given holds.rows (argument_form a) (Some word) (argument_in command sound n a found)
+      settles_to : settled rules after ≡ held (used (built_rule (text_form a)) (word ∷ []) holds.rows) None
+      settles_to =
+          let at = by_place command sound n a found in
+          rw at.1 (ap (λ (rs : List Row). held rs None) (used_by a.is_repeated at.0))
+
+      may_take : (again : Bool) → again || not (has given a.name) ≡ true
+          → may_come given (Some word) (record { name = a.name; wants = texts_wanted again }) ≡ true
+      may_take true e = refl
+      may_take false e = e
+
+      more_first : AreFirst more (place_after a.is_repeated n) arguments
+      more_first = first_more given word n arguments a a.is_repeated refl (arguments_sound command sound) found holds.first
+
+      holds_more : Holds more (place_after a.is_repeated n) after
+      holds_more = elim (use_of (forms_of command) given holds.rows (text_form a) (Some word) (argument_in command sound n a found)
           holds.are) [
             | good one quiet are ↦ record {
-              rows = used (built_rule (argument_form a)) (word ∷ []) holds.rows;
+              rows = used (built_rule (text_form a)) (word ∷ []) holds.rows;
               quiet = settles_by ∙ quiet;
               settles = settles_to;
               are = are;
               first = more_first;
             }
             | bad one fault ↦
-                let missing = next_missing given n arguments a holds.first found in
+                let more_of = next_open given n arguments a holds.first found in
                 let may : Some more ≡ None =
-                sym (one_more_if (forms_of command) given (argument_form a) (Some word) true (argument_in command sound n a found)
-                (rw missing refl)) ∙ one in
+                sym (one_more_if (forms_of command) given (text_form a) (Some word) true (argument_in command sound n a found)
+                (may_take a.is_repeated more_of)) ∙ one in
                 absurd (cc may)
           ]
 
@@ -310,10 +343,12 @@ module _ (command : CommandForm) (sound : are_sound (forms_of command) ≡ true)
         stop Has shape (stands idle n false here) word words
         (UnknownArgument, [], plain_turn shape [] (n + 1) rows p word refl plain_word ∙ placed n here ∙ ap (placed_fault here) found)
     placed_comes words walks plain_word (Some a) found =
-        step Has shape (stands idle n false here) (stands idle (n + 1) false (after a found)) word words _
+        step Has shape (stands idle n false here)
+        (stands (waits_at a.is_repeated) (place_after a.is_repeated n) false (after a found)) word words _
         (plain_turn shape [] (n + 1) rows p word refl plain_word ∙ placed n here ∙ ap (placed_fault here) found ∙ holds.quiet)
         (plain_walked shape (n + 1) rows p word plain_word ∙ to_place a found false)
-        (walks.between (more a found) (n + 1) holds.rows (named a.name (word ∷ [])) (holds_more a found))
+        (waits_for_any Has shape a.is_repeated (place_after a.is_repeated n + 1) false (after a found) words _
+        (walks.between (more a found) (place_after a.is_repeated n) holds.rows (named a.name (word ∷ [])) (holds_more a found)))
 
   -- after `--`
   good_escaped : (words : List Text) (given : Given) (n : ℕ) (rows : List Row) (p : Option (Text × List Text))
@@ -337,10 +372,13 @@ module _ (command : CommandForm) (sound : are_sound (forms_of command) ≡ true)
       go later None found =
           stop Has shape w word words (UnknownArgument, [], placed n (held rows p) ∙ ap (placed_fault (held rows p)) found)
       go later (Some a) found =
-          step Has shape w (stands idle (n + 1) true (held holds.rows (named a.name (word ∷ [])))) word words _
+          step Has shape w
+          (stands (waits_at a.is_repeated) (place_after a.is_repeated n) true (held holds.rows (named a.name (word ∷ [])))) word words _
           (placed n (held rows p) ∙ ap (placed_fault (held rows p)) found ∙ holds.quiet) (to_place given n rows p holds word a found true)
-          (later (given ++ (a.name, word) ∷ []) (n + 1) holds.rows (named a.name (word ∷ []))
-          (holds_more given n rows p holds word a found))
+          (waits_for_any Has shape a.is_repeated (place_after a.is_repeated n + 1) true
+          (held holds.rows (named a.name (word ∷ []))) words _
+          (later (given ++ (a.name, word) ∷ []) (place_after a.is_repeated n) holds.rows (named a.name (word ∷ []))
+          (holds_more given n rows p holds word a found)))
 
   -- ---- a name that is an option's
 

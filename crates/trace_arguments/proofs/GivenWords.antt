@@ -4,8 +4,8 @@ use Rattle.std.specs.Prelude.{codes, option_and_then}
 use Rattle.std.specs.Str.{bytes_eq}
 use Rattle.clap.specs.Lexer.{long_of}
 use Rattle.clap.specs.Walk.{Text}
-use Rattle.trace_arguments.specs.CommandLine.{CommandForm, Given, OptionForm, given_by, is_option, is_wanted, one_argument, one_more}
-use Rattle.trace_arguments.specs.CommandLine.{option_named}
+use Rattle.trace_arguments.specs.Given.{CommandForm, Given, given_by, is_option, is_wanted, one_argument, one_more, option_named}
+use Rattle.trace_forms.specs.Forms.{OptionForm}
 
 module _ (command : CommandForm) (given : Given) where
   -- what is given after one more word

@@ -1,16 +1,20 @@
 -- The outcome of clap's walk over words, at a command whose flags are at most `-h` or `--help`, and `-V` or `--version`.
 use Rattle.std.proofs.Common.{◌≡◌, ◌≢◌, ◌⊎◌, ℕ, ◌==◌, Bool, true, false, List, [], ◌∷◌, length, Option, Some, None, refl, sym, ◌∙◌, inl}
-use Rattle.std.proofs.Common.{inr}
-use Rattle.std.specs.Prelude.{slice_get, drop, encode_utf8, codes, fold, option_map}
+use Rattle.std.proofs.Common.{inr, ap, ap₂, subst, ◌++◌}
+use Rattle.std.specs.Prelude.{if◌then◌else◌, slice_get, drop, encode_utf8, codes, fold, is_some, option_map}
 use Rattle.std.specs.Str.{bytes_eq, chars}
-use Rattle.clap.specs.Lexer.{name_and_value}
-use Rattle.clap.specs.Walk.{arg_by_index, arg_by_long, arg_by_short, plain, Held, Names, Row, Rule, Text, Waiting, Walk, idle, option}
-use Rattle.clap.specs.Walk.{positional, value, walked, finished, settled, subcommand_met, to_positional}
+use Rattle.clap.specs.Lexer.{long_of, name_and_value, short_of}
+use Rattle.clap.specs.Walk.{after_flag, after_step, arg_by_index, arg_by_long, arg_by_short, bundle, done, long_met, plain, refused}
+use Rattle.clap.specs.Walk.{waits, Held}
+use Rattle.clap.specs.Walk.{Names, Outcome, Row, Rule, Step, Text, Waiting, Walk, idle, long_or_other, next, option, short_or_plain}
+use Rattle.clap.specs.Walk.{subcommand}
+use Rattle.clap.specs.Walk.{positional, trailing, value, walked, walked_from, word_met, finished, settled, subcommand_met, to_positional}
 use Rattle.clap.specs.Simple.{Shape, help_rule, new_shape, version_rule}
 use Rattle.clap.specs.Kinds.{Kinds, or_else}
 use Rattle.clap.proofs.FaultLemmas.{fault_ends}
 use Rattle.clap.proofs.WalkLemmas.{bundle_ends}
 use Rattle.clap.specs.Faults.{long_fault, short_fault, walk_fault, turn_fault, step_fault, settle_fault, defaults_fault, check_fault}
+use Rattle.clap.specs.Faults.{word_fault}
 use Rattle.clap.specs.Faults.{flags_fault}
 use Rattle.clap.specs.declared.builder.value_parser.ValueParser.TheVariants.{String}
 use Rattle.clap.specs.declared.error.kind.ErrorKind.{ErrorKind}
@@ -80,11 +84,11 @@ comes_as Has As f s w words to (Some found) h = (h.0, to _ found h.1)
 -- ---- a step
 
 -- a step without a fault
-pub step : {A : Type 0} (Has : List Row → A → Type 0) (s : Shape) (w next : Walk) (word : Text) (words : List Text) (found : Option A)
-    → turn_fault s [] w word ≡ [] → walked s.rules [] w word ≡ next → ComesTo Has s [] next words found →
+pub step : {A : Type 0} (Has : List Row → A → Type 0) (s : Shape) (w later : Walk) (word : Text) (words : List Text) (found : Option A)
+    → turn_fault s [] w word ≡ [] → walked s.rules [] w word ≡ later → ComesTo Has s [] later words found →
     ComesTo Has s [] w (word ∷ words) found
 unfolding walk_fault
-step {A} Has s w next word words found quiet to h =
+step {A} Has s w later word words found quiet to h =
     let via : ComesTo Has s (turn_fault s [] w word) (walked s.rules [] w word) words found = rw (quiet, to) h in
     elim found as (λ f. ComesTo Has s (turn_fault s [] w word) (walked s.rules [] w word) words f → ComesTo Has s [] w (word ∷ words) f) [
       | None ↦ λ h. h
@@ -134,6 +138,121 @@ plain_walked s i rows pending word h = elim h.short [
       let first : None ≡ slice_get (chars short.0) 0 = rw short.2 refl in
       rw (h.dashes, h.long, short.1, ← bundle_ends s.rules (length short.0) short.0 0 plain (held rows pending) first) refl
 ]
+
+-- ---- a positional argument that waits for more
+
+-- what waits after a word for an argument: nothing, or an argument that may be given again
+abbrev pub waits_at : Bool → Waiting
+waits_at true = positional
+waits_at false = idle
+
+abbrev with : Walk → Waiting → Walk
+with w waiting = record w { waiting = waiting }
+
+-- two walks are the same, or differ in what waits alone
+data Alike (a b : Walk) : Type 0 where
+  equal_walks : a ≡ b → Alike a b
+  apart_walks : (w : Walk) → a ≡ with w positional → b ≡ with w idle → Alike a b
+
+-- the word means the same to both
+flag_alike : (rules : List Rule) (word : Text) (h : Held) (o : Outcome)
+    → after_flag rules positional word h o ≡ after_flag rules idle word h o
+flag_alike rules word h done = refl
+flag_alike rules word h (waits id) = refl
+flag_alike rules word h plain = refl
+flag_alike rules word h refused = refl
+
+other_alike : (rules : List Rule) (word : Text) (long : Option (Text × Option Text)) (h : Held)
+    → long_or_other rules positional word long h ≡ long_or_other rules idle word long h
+other_alike rules word (Some p) h =
+    let met : Held × Outcome = long_met rules (arg_by_long rules p.0) p.1 h in
+    flag_alike rules word met.0 met.1
+other_alike rules word None h = short_alike (short_of word)
+  where
+    short_alike : (short : Option Text) → short_or_plain rules positional word short h ≡ short_or_plain rules idle word short h
+    short_alike (Some flags) = flag_alike rules word (bundle rules flags h).0 (bundle rules flags h).1
+    short_alike None = refl
+
+met_alike : (rules : List Rule) (is_trailing : Bool) (position : ℕ) (word : Text) (h : Held)
+    → word_met rules [] is_trailing positional position word h ≡ word_met rules [] is_trailing idle position word h
+met_alike rules true position word h = refl
+met_alike rules false position word h = go (bytes_eq word (codes "--")) (other_alike rules word (long_of word) h)
+  where
+    last : Held × Step
+    last = (h, trailing position)
+
+    go : (dashes : Bool) → long_or_other rules positional word (long_of word) h ≡ long_or_other rules idle word (long_of word) h
+        → (if dashes then last else long_or_other rules positional word (long_of word) h)
+        ≡ (if dashes then last else long_or_other rules idle word (long_of word) h)
+    go true e = refl
+    go false e = e
+
+placed_alike : (rules : List Rule) (found : Option Rule) (word : Text) (w : Walk) (h : Held)
+    → Alike (to_positional rules found word (with w positional) h) (to_positional rules found word (with w idle) h)
+placed_alike rules None word w h = apart_walks (record w { held = h }) refl refl
+placed_alike rules (Some a) word w h = equal_walks refl
+
+step_alike : (rules : List Rule) (word : Text) (w : Walk) (h : Held) (s : Step)
+    → Alike (after_step rules word (with w positional) h s) (after_step rules word (with w idle) h s)
+step_alike rules word w h (next waiting) = equal_walks refl
+step_alike rules word w h (trailing position) = apart_walks (record w { held = h; position = position; is_trailing = true }) refl refl
+step_alike rules word w h (subcommand name) = apart_walks (record w { held = h; stopped = Some (name, []) }) refl refl
+step_alike rules word w h value = placed_alike rules (arg_by_index rules w.position) word w h
+
+walked_alike : (rules : List Rule) (w : Walk) (word : Text) → Alike (walked rules [] (with w positional) word)
+    (walked rules [] (with w idle) word)
+unfolding walked
+walked_alike rules w word = go w.stopped
+  where
+    go : (stopped : Option (Text × List Text)) → Alike (walked_from rules [] stopped (with w positional) word)
+        (walked_from rules [] stopped (with w idle) word)
+    go (Some p) = apart_walks (record w { stopped = Some (p.0, p.1 ++ word ∷ []) }) refl refl
+    go None =
+        let met : Held × Step = word_met rules [] w.is_trailing idle w.position word w.held in
+        subst (λ (m : Held × Step). Alike (after_step rules word (with w positional) m.0 m.1)
+        (after_step rules word (with w idle) met.0 met.1))
+        (sym (met_alike rules w.is_trailing w.position word w.held)) (step_alike rules word w met.0 met.1)
+
+turn_alike : (s : Shape) (w : Walk) (word : Text) → turn_fault s [] (with w positional) word ≡ turn_fault s [] (with w idle) word
+turn_alike s w word =
+    ap (λ (m : Held × Step). if is_some w.stopped then none
+    else or_else (word_fault s [] w.is_trailing idle word w.held) (step_fault s w.position m.0 m.1))
+    (met_alike s.rules w.is_trailing w.position word w.held)
+  where
+    none : Kinds
+    none = []
+
+-- all further words mean the same to both
+words_alike : (s : Shape) (a b : Walk) (words : List Text) → Alike a b → (walk_fault s [] a words ≡ walk_fault s [] b words)
+    × (end_of s a words ≡ end_of s b words)
+unfolding walk_fault
+words_alike s a b words (equal_walks is) = (ap (λ (w : Walk). walk_fault s [] w words) is, ap (λ (w : Walk). end_of s w words) is)
+words_alike s a b [] (apart_walks w is other) = (refl, ap (λ (w : Walk). w.held) is ∙ sym (ap (λ (w : Walk). w.held) other))
+words_alike s a b (word ∷ words) (apart_walks w is other) =
+    let later = words_alike s (walked s.rules [] (with w positional) word) (walked s.rules [] (with w idle) word) words
+    (walked_alike s.rules w word) in (
+      ap (λ (v : Walk). walk_fault s [] v (word ∷ words)) is ∙ ap₂ or_else (turn_alike s w word) later.0
+          ∙ sym (ap (λ (v : Walk). walk_fault s [] v (word ∷ words)) other),
+      ap (λ (v : Walk). end_of s v (word ∷ words)) is ∙ later.1 ∙ sym (ap (λ (v : Walk). end_of s v (word ∷ words)) other),
+    )
+
+-- an argument that may be given again waits for what nothing else waits for
+pub waits_for_any : {A : Type 0} (Has : List Row → A → Type 0) (s : Shape) (again : Bool) (i : ℕ) (is_trailing : Bool) (h : Held)
+    (words : List Text) (found : Option A) → ComesTo Has s [] (walk_at idle i is_trailing h) words found
+    → ComesTo Has s [] (walk_at (waits_at again) i is_trailing h) words found
+waits_for_any Has s false i is_trailing h words found comes = comes
+waits_for_any {A} Has s true i is_trailing h words found comes =
+    let alike = words_alike s (walk_at positional i is_trailing h) (walk_at idle i is_trailing h) words
+    (apart_walks (walk_at idle i is_trailing h) refl refl) in
+    go found (ap₂ (λ (faults : Kinds) (end : Held). or_else faults (end_fault s end)) alike.0 alike.1) alike.1 comes
+  where
+    go : (found : Option A) → faults_from s [] (walk_at positional i is_trailing h) words
+        ≡ faults_from s [] (walk_at idle i is_trailing h) words
+        → end_of s (walk_at positional i is_trailing h) words ≡ end_of s (walk_at idle i is_trailing h) words
+        → ComesTo Has s [] (walk_at idle i is_trailing h) words found
+        → ComesTo Has s [] (walk_at positional i is_trailing h) words found
+    go None faults ends comes = λ none. comes (sym faults ∙ none)
+    go (Some it) faults ends comes = (faults ∙ comes.0, subst (λ (end : Held). Has (finished s.rules end) it) (sym ends) comes.1)
 
 -- ---- a command that is built
 
@@ -207,11 +326,11 @@ pub long_turn : (s : Shape) (names : Names) (waiting : Waiting) (i : ℕ) (h : H
     → Some_of (turn_fault s names (walk_at waiting i false h) word)
 long_turn s names waiting i h word none l fault = rw (none, l.dashes, l.long) (in_first _ _ fault)
 
-short_is_fault : (s : Shape) (found : Option Rule) (rest : Text) (h : Held) (next : Held → Kinds) → IsToldOrNone found
-    → Some_of (short_fault s.rules s.args_override_self found rest h next)
-short_is_fault s found rest h next (inl is) = rw is (in_first _ _ (in_second _ _ (DisplayHelp, [], refl)))
-short_is_fault s found rest h next (inr (inl is)) = rw is (in_first _ _ (in_second _ _ (DisplayVersion, [], refl)))
-short_is_fault s found rest h next (inr (inr is)) = rw is (UnknownArgument, [], refl)
+short_is_fault : (s : Shape) (found : Option Rule) (rest : Text) (h : Held) (others : Held → Kinds) → IsToldOrNone found
+    → Some_of (short_fault s.rules s.args_override_self found rest h others)
+short_is_fault s found rest h others (inl is) = rw is (in_first _ _ (in_second _ _ (DisplayHelp, [], refl)))
+short_is_fault s found rest h others (inr (inl is)) = rw is (in_first _ _ (in_second _ _ (DisplayVersion, [], refl)))
+short_is_fault s found rest h others (inr (inr is)) = rw is (UnknownArgument, [], refl)
 
 -- no short flag but help's and the version's
 abbrev pub HasNoOtherShort : Shape → Type 0

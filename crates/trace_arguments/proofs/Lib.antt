@@ -12,6 +12,6 @@ mod NextArgument
 mod CommandWalk
 mod LineWalk
 mod CommandLine
-mod CommandSteps
 mod ImportWords
 mod LineWords
+mod ShortWords

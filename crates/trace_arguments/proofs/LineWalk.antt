@@ -15,8 +15,9 @@ use Rattle.clap.proofs.FaultLemmas.{stopped_fault}
 use Rattle.clap.proofs.WalkLemmas.{both, find-map}
 use Rattle.clap.specs.Faults.{built_fault, walk_fault, settle_fault, defaults_fault, check_fault, entered_fault, level_fault, turn_fault}
 use Rattle.clap.specs.declared.error.kind.ErrorKind.TheVariants.{DisplayHelp, InvalidSubcommand, MissingSubcommand, UnknownArgument}
-use Rattle.trace_arguments.specs.CommandLine.{CommandForm, Given, LineValue, command_named, commands, given_by}
-use Rattle.trace_arguments.specs.CommandLine.{has_required, line_by, line_of}
+use Rattle.trace_arguments.specs.CommandLine.{command_named, commands, line_of}
+use Rattle.trace_arguments.specs.Given.{CommandForm, Given, given_by, has_required, line_by}
+use Rattle.trace_arguments.specs.Values.{LineValue}
 use Rattle.trace_arguments.specs.inner.Parser.{GivesLine, IsGiven, forms_of, program_app}
 use Rattle.trace_arguments.proofs.Named.{find_made, found_name, found_passes, or_false}
 use Rattle.trace_arguments.proofs.WordKinds.{Kind, is_dashes, is_long, is_short, is_plain, kind_of_word}

@@ -22,9 +22,8 @@ use Rattle.clap.specs.declared.error.kind.ErrorKind.TheVariants.{ArgumentConflic
 use Rattle.clap.specs.declared.parser.matches.ValueSource.{ValueSource}
 use Rattle.clap.specs.declared.parser.matches.ValueSource.TheVariants.{CommandLine}
 use Rattle.clap.proofs.WalkLemmas.{both}
-use Rattle.trace_arguments.specs.CommandLine.{Given, NumberOption, OptionForm, Wants, is_number_of, many_texts}
-use Rattle.trace_arguments.specs.CommandLine.{may_come, no_text, one_more}
-use Rattle.trace_arguments.specs.CommandLine.{one_number, one_text, option_named, text_given, texts_given}
+use Rattle.trace_arguments.specs.Given.{Given, is_number_of, may_come, one_more, option_named, text_given, texts_given}
+use Rattle.trace_forms.specs.Forms.{NumberOption, OptionForm, Wants, many_texts, no_text, one_number, one_text}
 use Rattle.trace_arguments.proofs.Named.{same_name}
 use Rattle.trace_arguments.proofs.LeafWalk.{Some_of, help, in_second}
 
@@ -35,7 +34,7 @@ abbrev pub count_by : Wants → ℕ
 count_by no_text = 0
 count_by _ = 1
 
-abbrev action_by : Wants → ArgAction
+abbrev pub action_by : Wants → ArgAction
 action_by many_texts = Append
 action_by no_text = SetTrue
 action_by _ = Set

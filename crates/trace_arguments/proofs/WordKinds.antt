@@ -5,7 +5,7 @@ use Rattle.std.specs.Str.{bytes_eq, chars}
 use Rattle.std.proofs.lemmas.Bool.{eqb-true}
 use Rattle.clap.specs.Lexer.{long_of, short_of, name_and_value}
 use Rattle.clap.specs.Walk.{Text}
-use Rattle.trace_arguments.specs.CommandLine.{is_option}
+use Rattle.trace_arguments.specs.Given.{is_option}
 
 pub record IsPlainWord (word : Text) : Type 0 where
   pub dashes : bytes_eq word (codes "--") ≡ false

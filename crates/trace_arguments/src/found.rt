@@ -1,10 +1,11 @@
 //! What the parser found of one option or argument.
-ghost use Rattle.std.specs.Prelude.{◌≡◌, is_some, Some, true, codes, option_map};
+ghost use Rattle.std.specs.Prelude.{◌≡◌, IfOk, is_some, Some, true, codes, map, option_map};
 ghost use Rattle.clap.specs.Words.{first_value, found_of, rows_of};
 ghost use Rattle.trace_arguments.specs.CommandLine.{format_by};
-ghost use Rattle.trace_arguments.specs.inner.Parser.{flag_read, number_read};
+ghost use Rattle.trace_arguments.specs.inner.Parser.{flag_read, number_read, texts_found};
 
 use clap::ArgMatches;
+use std::alloc::{AllocError, Global};
 use trace_report::Format;
 
 /// The text of an argument that must be given.
@@ -13,6 +14,18 @@ pub(crate) fn text_in<'a>(found: &ArgMatches<'a>, name: &str) -> &'a str
     ensures { first_value (found_of found.now) name.now ≡ Some result.now }
 {
     found.get_str(name).unwrap()
+}
+
+/// The texts of an argument that may be given any number of times, in the order of the words.
+pub(crate) fn texts_in<'a>(
+    alloc: Global,
+    found: &ArgMatches<'a>,
+    name: &str,
+) -> Result<Vec<&'a str>, AllocError>
+    ensures { IfOk result (λ texts. map (λ text. text.now) texts.items ≡ texts_found (found_of found.now) name.now) }
+{
+    let texts = found.get_strs(name).unwrap_or(&[]);
+    texts.to_vec(alloc)
 }
 
 /// The number of an option.

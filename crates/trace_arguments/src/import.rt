@@ -1,46 +1,41 @@
 //! What is asked of an import.
-ghost use Rattle.std.specs.Prelude.{◌≡◌, ◌&&◌, ◌==◌, not, IfOk, IfErr, is_some, Some, false, true, map, codes, option_map};
-ghost use Rattle.std.specs.List.{list_all};
+ghost use Rattle.std.specs.Prelude.{◌≡◌, IfOk, IfErr, is_some, Some, true, option_map};
 ghost use Rattle.clap.specs.Words.{found_of, rows_of};
-ghost use Rattle.trace_arguments.specs.CommandLine.{begins_with_letter, define_of, define_value, defines_of, ends_open, import_value};
-ghost use Rattle.trace_arguments.specs.CommandLine.{is_name_byte, is_value, is_variable, owners_of};
-ghost use Rattle.trace_arguments.specs.inner.Parser.{flag_read, import_read};
+ghost use Rattle.trace_arguments.specs.Choices.{account_of};
+ghost use Rattle.trace_arguments.specs.CommandLine.{import_command};
+ghost use Rattle.trace_arguments.specs.Values.{import_value};
+ghost use Rattle.trace_arguments.specs.inner.Parser.{IsAsked, import_read};
 
+use crate::choice::{ImportChoice, choice_in};
+use crate::commands::IMPORT;
 use crate::found::flag_in;
 use crate::line::LineFault;
-use crate::parser::import_command;
+use crate::parser::text_fault;
 use clap::ArgMatches;
-use clap::error::ErrorKind;
-use std::alloc::{AllocError, Global};
+use std::alloc::Global;
 
-/// What becomes of rules for owners.
+/// Of which rules an import gives an account.
 #[derive(Clone, Copy, Debug, PartialEq, Eq)]
-pub enum OwnerRules {
-    /// They are kept, as rules for everybody.
-    Keep,
-    /// They are left out.
-    Drop,
-}
-
-/// A value of a variable, as a line before the text would give it.
-#[derive(Clone, Copy, Debug, PartialEq, Eq)]
-pub struct Define<'a> {
-    /// A letter, and then letters, digits and `_`.
-    pub variable: &'a str,
-    /// Any text that doesn't end with a backslash that escapes nothing.
-    pub value: &'a str,
+pub enum Account {
+    /// Of those whose effect the imported profile doesn't have exactly.
+    Changes,
+    /// Of all.
+    All,
+    /// Of none.
+    Nothing,
 }
 
 /// What is asked of an import.
 #[derive(Debug, Drop, PartialEq, Eq)]
 pub struct ImportOptions<'a> {
-    /// The profile that is imported, where the text has several.
-    pub profile: Option<&'a str>,
-    pub owners: OwnerRules,
-    /// Values of variables, in the order of the words.
-    pub defines: Vec<Define<'a>>,
+    pub choice: ImportChoice<'a>,
+    /// Whether each profile of the text is imported; then the choice names none, and there is no map.
+    pub all: bool,
     /// Whether a profile that isn't exact for the chosen subject is refused.
     pub strict: bool,
+    pub account: Account,
+    /// The name of the file for the places that the rules come from.
+    pub map: Option<&'a str>,
 }
 
 /// What is asked of an import, by what the parser found.
@@ -48,136 +43,42 @@ pub(crate) fn import_in<'a>(
     alloc: Global,
     found: &ArgMatches<'a>,
 ) -> Result<ImportOptions<'a>, LineFault>
-    requires { is_some (flag_read (codes "strict") (rows_of (found_of found.now))) ≡ true }
+    requires { IsAsked import_command (rows_of (found_of found.now)) }
     ensures ok { IfOk result (λ asked. import_read (found_of found.now) ≡ Some (import_value asked)) }
     ensures err { IfErr result (λ fault.
         is_some (import_read (found_of found.now)) ≡ true → fault ≡ LineFault.NoMemory) }
 {
-    let Some(owners) = owners_of(found.get_str("owner")) else {
-        return Err(text_fault(alloc, "--owner takes keep or drop"));
-    };
-    let texts = found.get_strs("define").unwrap_or(&[]);
-    let Some(defines) = defines_of(alloc, texts)? else {
+    let map = found.get_str("map");
+    let all = flag_in(found, "all");
+    let single = found.get_str("profile").is_some() || map.is_some();
+    if all && single {
         return Err(text_fault(
             alloc,
-            "--define takes VAR=VALUE, where VAR is a letter and then letters, digits and _, and not profile_name, and no open backslash ends VALUE",
+            &IMPORT,
+            "--all goes neither with --profile nor with --map",
         ));
+    }
+    let choice = choice_in(alloc, &IMPORT, found)?;
+    let Some(account) = account_of(found.get_str("account")) else {
+        return Err(text_fault(alloc, &IMPORT, "--account takes changes, all or none"));
     };
     Ok(ImportOptions {
-        profile: found.get_str("profile"),
-        owners,
-        defines,
+        choice,
+        all,
         strict: flag_in(found, "strict"),
+        account,
+        map,
     })
 }
 
-/// The fault of an option whose text isn't one that it takes.
-fn text_fault(alloc: Global, told: &str) -> LineFault {
-    match text_error(alloc, told) {
-        Ok(error) => LineFault::Usage(error),
-        Err(_) => LineFault::NoMemory,
-    }
-}
-
-fn text_error(alloc: Global, told: &str) -> Result<clap::Error, AllocError> {
-    let mut command = import_command(alloc)?.bin_name("aa-trace import")?;
-    command.error(ErrorKind::ValueValidation, told)
-}
-
-/// What becomes of rules for owners by the text of `--owner`.
-fn owners_of(text: Option<&str>) -> Option<OwnerRules>
-    ensures { result ≡ owners_of (option_map (λ text. text.now) text.entry) }
+/// Of which rules an account is given, by the text of `--account`.
+fn account_of(text: Option<&str>) -> Option<Account>
+    ensures { result ≡ account_of (option_map (λ text. text.now) text.entry) }
 {
     match text {
-        None | Some("keep") => Some(OwnerRules::Keep),
-        Some("drop") => Some(OwnerRules::Drop),
+        None | Some("changes") => Some(Account::Changes),
+        Some("all") => Some(Account::All),
+        Some("none") => Some(Account::Nothing),
         _ => None,
     }
-}
-
-/// Each of the texts as a variable with its value, or none if one of them isn't VAR=VALUE.
-fn defines_of<'a>(alloc: Global, texts: &[&'a str]) -> Result<Option<Vec<Define<'a>>>, AllocError>
-    ensures { IfOk result (λ defines.
-        option_map (λ list. map define_value list.items) defines ≡ defines_of (map (λ text. text.now) texts.now)) }
-{
-    let mut defines = Vec::new(alloc);
-    for text in texts {
-        let Some(define) = define_of(*text) else {
-            return Ok(None);
-        };
-        defines.push(define)?;
-    }
-    Ok(Some(defines))
-}
-
-/// The variable and the value of VAR=VALUE.
-fn define_of<'a>(text: &'a str) -> Option<Define<'a>>
-    ensures { option_map define_value result ≡ define_of text.now }
-{
-    let (variable, value) = text.split_once('=')?;
-    if may_be_defined(variable, value) {
-        Some(Define { variable, value })
-    } else {
-        None
-    }
-}
-
-fn may_be_defined(variable: &str, value: &str) -> bool
-    ensures { result ≡ (is_variable variable.now && is_value value.now) }
-{
-    is_variable(variable) && is_value(value)
-}
-
-/// Whether the text is a letter and then letters, digits and `_`, and not `profile_name`.
-fn is_variable(text: &str) -> bool
-    ensures { result ≡ is_variable text.now }
-{
-    let bytes = text.as_bytes();
-    begins_with_letter(bytes) && are_name_bytes(bytes) && text != "profile_name"
-}
-
-/// Whether the text doesn't end with a backslash that would escape what follows the variable in a path.
-fn is_value(text: &str) -> bool
-    ensures { result ≡ is_value text.now }
-{
-    !ends_open(text.as_bytes())
-}
-
-/// Whether the last of the bytes is a backslash that isn't itself escaped.
-fn ends_open(bytes: &[u8]) -> bool
-    ensures { result ≡ ends_open false bytes.now }
-{
-    let mut escaped = false;
-    for byte in bytes {
-        escaped = escapes(escaped, *byte);
-    }
-    escaped
-}
-
-/// Whether the byte is a backslash that isn't escaped.
-fn escapes(escaped: bool, byte: u8) -> bool
-    ensures { result ≡ (not escaped && byte == 92) }
-{
-    !escaped && byte == b'\\'
-}
-
-fn begins_with_letter(bytes: &[u8]) -> bool
-    ensures { result ≡ begins_with_letter bytes.now }
-{
-    match bytes {
-        [first, ..] => first.is_ascii_alphabetic(),
-        [] => false,
-    }
-}
-
-fn are_name_bytes(bytes: &[u8]) -> bool
-    ensures { result ≡ list_all is_name_byte bytes.now }
-{
-    bytes.iter().all(|byte| is_name_byte(*byte))
-}
-
-fn is_name_byte(byte: u8) -> bool
-    ensures { result ≡ is_name_byte byte }
-{
-    byte.is_ascii_alphanumeric() || byte == b'_'
 }

@@ -4,15 +4,23 @@
 //! proofs.
 #![tactic(auto)]
 
+mod choice;
+mod commands;
+mod explain;
 mod found;
 mod import;
 mod line;
 mod lines;
-mod options;
 mod parser;
 mod questions;
+mod short;
 
-pub use import::{Define, ImportOptions, OwnerRules};
-pub use line::{Line, LineFault, StormSize, command_line};
-pub use questions::{DiffQuestion, NameCommand, NameQuestion, ProfileQuestion};
+pub use choice::{Define, ImportChoice, OwnerRules};
+pub use import::{Account, ImportOptions};
+pub use line::{Command, Line, LineFault, StormSize, command_line};
+pub use questions::{
+    AuditQuestion, DiffQuestion, FlattenedQuestion, NameCommand, NameQuestion, NamesQuestion,
+    ProfileQuestion,
+};
+pub use short::spelled_out;
 pub use trace_report::Format;

@@ -1,14 +1,20 @@
 //! What the words of a command line ask for.
 ghost use Rattle.std.specs.Prelude.{◌≡◌, ◌≤◌, IfOk, IfErr, is_some, Some, true, map};
-ghost use Rattle.trace_arguments.specs.CommandLine.{capacity, capacity_of, line_of, line_value, line_fault_number};
+ghost use Rattle.trace_arguments.specs.CommandLine.{capacity, line_of};
+ghost use Rattle.trace_arguments.specs.Values.{capacity_of, command_value, line_fault_number, line_value};
 ghost use Rattle.trace_arguments.specs.inner.Parser.{IsLineFaultOf, IsReadAs};
 
+use crate::explain::explain_in;
+use crate::found::flag_in;
 use crate::import::{ImportOptions, import_in};
 use crate::lines::{
-    all_in, any_in, compile_in, diff_in, lint_in, name_in, run_in, steps_in, storm_in, test_in,
+    all_in, any_in, audit_in, check_in, compile_in, diff_in, lint_in, name_in, names_in, run_in,
+    steps_in, storm_in, test_in,
 };
 use crate::parser::program;
-use crate::questions::{NameCommand, NameQuestion, ProfileQuestion};
+use crate::questions::{
+    AuditQuestion, FlattenedQuestion, NameCommand, NameQuestion, NamesQuestion, ProfileQuestion,
+};
 use clap::ArgMatches;
 use clap::error::ErrorKind;
 use names::NoMemory;
@@ -17,27 +23,53 @@ use std::convert::AsStr;
 use thiserror::Error;
 use trace_report::Format;
 
+/// What the words of a command line ask for.
+#[derive(Debug, Drop, PartialEq, Eq)]
+pub struct Line<'a> {
+    pub command: Command<'a>,
+    /// Whether notes on what is refused are written: `-v`, which `judge`, `match`, `run`, `test`, `compile`, `check`, `steps` and
+    /// `import` have. False with any other command.
+    pub verbose: bool,
+}
+
 /// A command, with what it is asked for.
 #[derive(Debug, Drop, PartialEq, Eq)]
-pub enum Line<'a> {
+pub enum Command<'a> {
     /// `judge`, `explain` and `match`: a question about one name.
     Name(NameQuestion<'a>),
+    /// `explain --flattened`: a question about one name and a profile of a flattened text.
+    ExplainFlattened(FlattenedQuestion<'a>),
     /// `any`, `all`, `diff` and `lint`: a question about all names.
     Profile(ProfileQuestion<'a>),
-    /// `run --capacity N`
-    Run { capacity: u32 },
-    /// `test --capacity N [--json]`
-    Test { capacity: u32, format: Format },
-    /// `compile --depth N`
-    Compile { depth: u16 },
-    /// `check`
+    /// `run [-v] [--capacity N]`
+    Run {
+        capacity: u32,
+    },
+    /// `test [-v] [--answers] [--capacity N] [--json]`
+    Test {
+        capacity: u32,
+        format: Format,
+        /// Whether each answer of the script is written.
+        answers: bool,
+    },
+    /// `compile [-v] [--depth N]`
+    Compile {
+        depth: u16,
+    },
+    /// `check [-v]`
     Check,
-    /// `steps --capacity N`
-    Steps { capacity: u32 },
-    /// `storm --sessions N --opens N --changes N`
+    /// `steps [-v] [--capacity N]`
+    Steps {
+        capacity: u32,
+    },
+    /// `storm [--sessions N] [--opens N] [--changes N]`
     Storm(StormSize),
-    /// `import --profile NAME --owner keep|drop --define VAR=VALUE --strict`
+    /// `import`, of a flattened text.
     Import(ImportOptions<'a>),
+    /// `names`: a question about a list of names.
+    Names(NamesQuestion<'a>),
+    /// `audit`: a question about the lines of a log.
+    Audit(AuditQuestion<'a>),
 }
 
 /// The size of a storm.
@@ -98,7 +130,7 @@ impl From<AllocError> for LineFault {
 /// Reads the words of a command line, of which the first is the program's name.
 pub fn command_line<'a, S: AsStr>(alloc: Global, words: &'a [S]) -> Result<Line<'a>, LineFault>
     ensures ok { IfOk result (λ line. line_of (map S.text words.now) ≡ Some (line_value line)) }
-    ensures capacity { IfOk result (λ line. capacity_of (line_value line) ≤ capacity.most) }
+    ensures capacity { IfOk result (λ line. capacity_of (command_value line.command) ≤ capacity.most) }
     ensures err { IfErr result (λ fault.
         is_some (line_of (map S.text words.now)) ≡ true → fault ≡ LineFault.NoMemory) }
 {
@@ -106,7 +138,10 @@ pub fn command_line<'a, S: AsStr>(alloc: Global, words: &'a [S]) -> Result<Line<
     let (command, found) = matches.subcommand().unwrap();
     match command {
         "judge" => Ok(name_in(NameCommand::Judge, found)),
-        "explain" => Ok(name_in(NameCommand::Explain, found)),
+        "explain" => Ok(Line {
+            command: explain_in(alloc, found)?,
+            verbose: false,
+        }),
         "any" => Ok(any_in(found)),
         "all" => Ok(all_in(found)),
         "diff" => Ok(diff_in(found)),
@@ -114,11 +149,16 @@ pub fn command_line<'a, S: AsStr>(alloc: Global, words: &'a [S]) -> Result<Line<
         "run" => Ok(run_in(found)),
         "test" => Ok(test_in(found)),
         "compile" => Ok(compile_in(found)),
-        "check" => Ok(Line::Check),
+        "check" => Ok(check_in(found)),
         "match" => Ok(name_in(NameCommand::Match, found)),
         "steps" => Ok(steps_in(found)),
         "storm" => Ok(storm_in(found)),
-        "import" => Ok(Line::Import(import_in(alloc, found)?)),
+        "import" => Ok(Line {
+            command: Command::Import(import_in(alloc, found)?),
+            verbose: flag_in(found, "verbose"),
+        }),
+        "names" => Ok(names_in(found)),
+        "audit" => Ok(audit_in(alloc, found)?),
         _ => unreachable!(),
     }
 }

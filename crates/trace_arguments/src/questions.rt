@@ -1,14 +1,15 @@
-//! The questions that a command line may ask of profiles and images.
+//! The questions that a command line may ask of profiles, images and logs.
+use crate::choice::ImportChoice;
 use trace_report::Format;
 
 /// A command that asks about one name.
 #[derive(Clone, Copy, Debug, PartialEq, Eq)]
 pub enum NameCommand {
-    /// `judge [--json] PERMS NAME`
+    /// `judge [-v] [-q] [--json] PERMS NAME`
     Judge,
     /// `explain [--json] PERMS NAME`
     Explain,
-    /// `match [--json] PERMS NAME`
+    /// `match [-v] [-q] [--json] PERMS NAME`
     Match,
 }
 
@@ -19,6 +20,17 @@ pub struct NameQuestion<'a> {
     pub perms: &'a str,
     pub name: &'a str,
     pub format: Format,
+    /// Whether the answer is the exit status alone; never with `explain`.
+    pub quiet: bool,
+}
+
+/// A question about one name and a profile of a flattened text.
+#[derive(Debug, Drop, PartialEq, Eq)]
+pub struct FlattenedQuestion<'a> {
+    pub perms: &'a str,
+    pub name: &'a str,
+    pub format: Format,
+    pub choice: ImportChoice<'a>,
 }
 
 /// A question about all names.
@@ -56,5 +68,27 @@ pub struct DiffQuestion<'a> {
     pub below: Option<&'a str>,
     /// Whether a name is requested for each pair of reasons.
     pub each_rule: bool,
+    pub format: Format,
+}
+
+/// What is asked about a list of names: `names [-n] [-0] [--verdict] PERMS PROFILE`.
+#[derive(Clone, Copy, Debug, PartialEq, Eq)]
+pub struct NamesQuestion<'a> {
+    pub perms: &'a str,
+    /// The name of the profile.
+    pub profile: &'a str,
+    /// Whether the names that aren't allowed are written, and not those that are.
+    pub not_allowed: bool,
+    /// Whether each name is written with its verdict.
+    pub verdicts: bool,
+    /// Whether names end with byte 0, and not with line feeds.
+    pub null: bool,
+}
+
+/// What is asked about the lines of a log: `audit [--json] PROFILES..`.
+#[derive(Debug, Drop, PartialEq, Eq)]
+pub struct AuditQuestion<'a> {
+    /// The names of the profiles, one or more, in the order of the words.
+    pub profiles: Vec<&'a str>,
     pub format: Format,
 }

@@ -28,7 +28,8 @@ use Rattle.trace_report.specs.Output.{Output, fault, line, refusal, whole_answer
 use Rattle.trace_report.specs.Streams.{Ends, IsTold, Streams}
 use Rattle.trace_report.specs.laws.Endings.{ends_told, nothing_yet, told_alone, written}
 use Rattle.trace_commands.specs.Explain.{explain_output, explained_output, refusal_text, GoesOnFrom}
-use Rattle.trace_commands.specs.Judge.{ask_of, judge_output, verdict_output}
+use Rattle.trace_commands.specs.Judge.{judge_output, verdict_output}
+use Rattle.trace_report.specs.ReadStreams.{ask_of}
 
 -- ---- arguments
 

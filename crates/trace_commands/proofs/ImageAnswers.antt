@@ -22,7 +22,7 @@ use Rattle.tables.specs.declared.fault.ImageFault.{ImageFault}
 use Rattle.answer_json.specs.Lines.{json_line}
 use Rattle.answer_json.specs.Values.{match_object}
 use Rattle.trace_commands.specs.inner.Counts.{counted_text}
-use Rattle.trace_commands.specs.Judge.{ask_of}
+use Rattle.trace_report.specs.ReadStreams.{ask_of}
 use Rattle.trace_report.specs.Output.{Output, fault, image_refusal, line, whole_answer}
 use Rattle.trace_commands.specs.Tables.{IsCheckOutput, IsImageOutput, IsImageRefused, IsMatchOutput, IsMatchOutputOf, IsMatchedOutput}
 use Rattle.trace_commands.specs.Tables.{IsVerdictOf, counts_text, look_ups_of, match_lines, match_text, steps_text}

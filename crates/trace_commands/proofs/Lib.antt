@@ -3,3 +3,6 @@ mod Consumption
 mod ExplainEndings
 mod ImageAnswers
 mod ImageRead
+mod QuietEndings
+mod QuietOutputs
+mod QuietVerdicts

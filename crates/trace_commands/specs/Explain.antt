@@ -7,7 +7,7 @@ use Rattle.rule_reader.specs.declared.fault.ReadFault.{ReadFault}
 use Rattle.rule_profile.specs.Profile.{ProfileValue}
 use Rattle.rule_reader.specs.ReadText.{outcome_of}
 use Rattle.rule_reader.specs.Spans.{spans_of}
-use Rattle.trace_commands.specs.Judge.{ask_of}
+use Rattle.trace_report.specs.ReadStreams.{ask_of}
 use Rattle.trace_report.specs.Output.{Output, fault, line, refusal, whole_answer}
 use Rattle.trace_report.specs.declared.format.Format.{Format}
 use Rattle.trace_report.specs.declared.status.Status.TheVariants.{BadArguments, Refused}

@@ -1,6 +1,5 @@
 -- What `judge` writes, memory and failures of the streams aside.
-use Rattle.std.specs.Prelude.{ℕ, Bool, false, List, [], ◌∷◌, ◌==◌, Some, None, Result, Ok, Err, codes, if◌then◌else◌}
-use Rattle.names.specs.Ascii as ascii
+use Rattle.std.specs.Prelude.{ℕ, List, Result, Ok, Err}
 use Rattle.names.specs.declared.permissions.Perms.{Perms}
 use Rattle.rule_reader.specs.declared.fault.ReadFault.{ReadFault}
 use Rattle.rule_globs.specs.PlainVerdict.{verdict}
@@ -10,19 +9,7 @@ use Rattle.answer_json.specs.Lines.{verdict_line}
 use Rattle.trace_report.specs.declared.format.Format.{Format}
 use Rattle.trace_report.specs.declared.status.Status.TheVariants.{BadArguments, Refused}
 use Rattle.trace_report.specs.Output.{Output, fault, refusal, whole_answer}
-use Rattle.trace_report.specs.ReadStreams.{asked_by}
-
--- the name begins with a slash
-abbrev pub is_absolute : List ℕ → Bool
-is_absolute [] = false
-is_absolute (b ∷ name) = b == ascii.slash
-
--- the permissions asked for, or the message about the arguments
-abbrev pub ask_of : List ℕ → List ℕ → Result Perms (List ℕ)
-ask_of perms name = elim (asked_by perms) [
-  | None ↦ Err (codes "bad permissions")
-  | Some ask ↦ if is_absolute name then Ok ask else Err (codes "bad name")
-]
+use Rattle.trace_report.specs.ReadStreams.{ask_of}
 
 -- the verdict on the name by the profile that was read, or why there is none
 abbrev pub verdict_output : Format → Perms → List ℕ → Result ProfileValue ReadFault → Output

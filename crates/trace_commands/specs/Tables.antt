@@ -24,7 +24,7 @@ use Rattle.tables.specs.declared.header.Version.{Version}
 use Rattle.tables.specs.declared.header.Version.TheVariants.{First, Second}
 use Rattle.trace_report.specs.declared.fault.Fault.{Fault}
 use Rattle.trace_report.specs.declared.fault.Fault.TheVariants.{Memory}
-use Rattle.trace_commands.specs.Judge.{ask_of}
+use Rattle.trace_report.specs.ReadStreams.{ask_of}
 use Rattle.trace_report.specs.Output.{Output, compile_refusal, fault, image_refusal, line, refusal, whole_answer}
 use Rattle.trace_report.specs.declared.format.Format.{Format}
 use Rattle.trace_report.specs.declared.format.Format.TheVariants.{Text, Json}

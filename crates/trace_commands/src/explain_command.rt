@@ -4,19 +4,18 @@ ghost use Rattle.std.specs.Io.KnownBytes.{Keeps};
 ghost use Rattle.names.specs.Errors.{no_memory_text};
 ghost use Rattle.rule_reader.specs.ReadText.{outcome_of};
 ghost use Rattle.trace_commands.specs.Explain.{explain_output, explained_output, refusal_text};
-ghost use Rattle.trace_commands.specs.Judge.{ask_of};
 ghost use Rattle.trace_commands.specs.inner.Answers.{IsTextAsked};
 ghost use Rattle.trace_report.specs.declared.format.Format.{Format};
+ghost use Rattle.trace_report.specs.ReadStreams.{ask_of};
 ghost use Rattle.trace_report.specs.Streams.{Ends, IsTextOf, IsTold, streams};
 
-use crate::judge_command::ask_of;
 use answer_json::explanation;
 use names::{NoMemory, Perms};
 use rule_explain::fault_lines;
 use rule_reader::{ReadFault, read};
 use std::alloc::Global;
 use std::io::{Read, Write};
-use trace_report::{Fault, Format, Status, fail, read_all, write_answer};
+use trace_report::{Fault, Format, Status, ask_of, fail, read_all, write_answer};
 
 /// Reads a profile from `input` and writes to `answers` its verdict on the name for the permissions asked for, and the reason for
 /// each of them, in this format. A text that is refused is reported on `faults` instead, as text, with the line that has its

@@ -1,20 +1,23 @@
 //! `judge PERMS NAME`: the verdict on a name by the profile that is read.
-ghost use Rattle.std.specs.Prelude.{ℕ, List, IsErr};
+ghost use Rattle.std.specs.Prelude.{◌≡◌, ℕ, List, IsErr, is_ok};
 ghost use Rattle.std.specs.Io.KnownBytes.{Keeps};
 ghost use Rattle.answer_json.specs.Lines.{verdict_line};
-ghost use Rattle.trace_commands.specs.Judge.{ask_of, judge_output};
+ghost use Rattle.trace_commands.specs.Judge.{judge_output};
 ghost use Rattle.trace_report.specs.Output.{whole_answer};
+ghost use Rattle.trace_report.specs.ReadStreams.{ask_of};
 ghost use Rattle.trace_report.specs.Streams.{Ends, IsTextOf, streams};
 ghost use Rattle.trace_report.specs.declared.format.Format.{Format};
-ghost use Rattle.trace_commands.specs.inner.Answers.{IsJudged, IsAsked};
+ghost use Rattle.trace_commands.specs.Quiet.{quiet_judge_output};
+ghost use Rattle.trace_commands.specs.inner.Answers.{IsJudged};
+ghost use Rattle.trace_commands.specs.inner.Quiet.{IsSaidBy};
 
 use answer_json::verdict_line;
-use names::{NoMemory, Perms, Verdict};
+use names::{NoMemory, Verdict};
 use rule_judge::judge_slow;
 use rule_reader::{ReadFault, read};
 use std::alloc::Global;
 use std::io::{Read, Write};
-use trace_report::{Fault, Format, Status, asked_by, fail, read_all, write_answer};
+use trace_report::{Fault, Format, Status, ask_of, fail, read_all, write_answer};
 
 /// Reads a profile from `input` and writes to `answers` its verdict on the name for the permissions asked for, in this format. A
 /// fault is reported on `faults` instead of an answer, as text. The arguments are tested before anything is read.
@@ -58,14 +61,15 @@ fn answer<A: Write, F: Write>(
 }
 
 /// The verdict on the name, or why there is none.
-fn verdict_on<R: Read>(
+pub(crate) fn verdict_on<R: Read>(
     alloc: Global,
     perms: &str,
     name: &str,
     input: &mut R,
 ) -> Result<Verdict, Fault>
     ensures output { (text : List ℕ) × IsTextOf (R.remaining input.old) text
-        × ((format : Format) → IsJudged format (judge_output format perms.now name.now text) result) }
+        × ((format : Format) → IsJudged format (judge_output format perms.now name.now text) result)
+        × IsSaidBy (quiet_judge_output perms.now name.now text) result }
     ensures unread { IsErr (ask_of perms.now name.now)
         → Keeps (R.remaining input.old) (R.remaining input.new) }
 {
@@ -78,14 +82,9 @@ fn verdict_on<R: Read>(
     }
 }
 
-/// The permissions asked for, if the arguments are valid.
-pub(crate) fn ask_of(perms: &str, name: &str) -> Result<Perms, Fault>
-    ensures { IsAsked (ask_of perms.now name.now) result }
+/// Whether these arguments are permissions and a name that can be judged, which begins with a slash.
+pub fn can_be_judged(perms: &str, name: &str) -> bool
+    ensures { result ≡ is_ok (ask_of perms.now name.now) }
 {
-    let ask = asked_by(perms).ok_or(Fault::Permissions)?;
-    if name.starts_with('/') {
-        Ok(ask)
-    } else {
-        Err(Fault::Name)
-    }
+    ask_of(perms, name).is_ok()
 }

@@ -1,18 +1,23 @@
 //! Laws that show the definitions of `specs/` sane. The functions do nothing: each stands for its contract.
-ghost use Rattle.std.specs.Prelude.{◌≡◌, ◌⊎◌, ◌≤◌, ◌++◌, ◌∷◌, [], ℕ, List, length, None};
+ghost use Rattle.std.specs.Prelude.{◌≡◌, ◌≢◌, ◌⊎◌, ◌≤◌, ◌++◌, ◌∷◌, [], ℕ, List, codes, length, None};
 ghost use Rattle.names.specs.Bytes.{are_bytes};
+ghost use Rattle.names.specs.VerdictText.{verdict_text};
 ghost use Rattle.names.specs.declared.permissions.Perms.{Perms};
+ghost use Rattle.names.specs.declared.verdict.Verdict.{Verdict};
+ghost use Rattle.names.specs.declared.verdict.Verdict.TheVariants.{Allowed};
 ghost use Rattle.rule_globs.specs.PlainVerdict.{verdict};
 ghost use Rattle.rule_profile.specs.Profile.{ProfileValue};
 ghost use Rattle.tables.specs.Tables.{Table};
 ghost use Rattle.table_verifier.specs.AcceptedImages.{IsLoaded};
 ghost use Rattle.answer_json.specs.Lines.{json_line};
 ghost use Rattle.answer_json.specs.Values.{match_object};
-ghost use Rattle.trace_report.specs.Output.{Output, whole_answer};
+ghost use Rattle.trace_report.specs.Output.{Output, answer, whole_answer};
 ghost use Rattle.trace_report.specs.declared.format.Format.{Format};
 ghost use Rattle.trace_report.specs.declared.format.Format.TheVariants.{Text, Json};
+ghost use Rattle.trace_report.specs.declared.status.Status.TheVariants.{Done, Unmet};
 ghost use Rattle.trace_commands.specs.Explain.{explain_output, GoesOnFrom};
 ghost use Rattle.trace_commands.specs.Judge.{judge_output};
+ghost use Rattle.trace_commands.specs.Quiet.{quiet_judge_output};
 ghost use Rattle.trace_commands.specs.Tables.{IsCheckOutput, IsImageOutput, IsMatchOutput, IsMatchedOutput, match_lines, steps_text};
 
 use matcher::tables_of_rules_tell_their_verdicts;
@@ -49,6 +54,16 @@ pub fn images_of_rules_tell_their_verdicts()
     tables_have_one_outcome();
     tables_of_rules_tell_their_verdicts();
 }
+
+/// The status of `judge --quiet` says what `judge` writes in text: `allowed`, another verdict, or the same fault.
+pub fn quiet_verdicts_are_those_of_judge()
+    ensures allowed { (perms name text : List ℕ) → (quiet_judge_output perms name text).status ≡ Done →
+        judge_output Text perms name text ≡ answer (codes "allowed") }
+    ensures refused { (perms name text : List ℕ) → (quiet_judge_output perms name text).status ≡ Unmet →
+        (verdict : Verdict) × (verdict ≢ Allowed) × (judge_output Text perms name text ≡ answer (verdict_text verdict)) }
+    ensures fault { (perms name text : List ℕ) → (quiet_judge_output perms name text).status ≢ Done →
+        (quiet_judge_output perms name text).status ≢ Unmet → judge_output Text perms name text ≡ quiet_judge_output perms name text }
+{}
 
 /// In text, `explain` begins with what `judge` writes, on both streams. In each format it ends with the same status.
 pub fn explain_goes_on_from_judge()

@@ -1,23 +1,23 @@
 //! `match PERMS NAME`: the verdict on a name by the image that is read.
-ghost use Rattle.std.specs.Prelude.{◌≡◌, ◌≢◌, ◌⊎◌, ℕ, List, IsErr, IfErr, IfOk, Some, None, if◌then◌else◌, ◌==◌};
+ghost use Rattle.std.specs.Prelude.{◌≡◌, ◌≢◌, ◌⊎◌, ℕ, List, IsErr, IfErr, IfOk, Some, None, if◌then◌else◌, ◌==◌, length};
 ghost use Rattle.std.specs.Io.KnownBytes.{Keeps};
 ghost use Rattle.names.specs.declared.verdict.Verdict.{Verdict};
 ghost use Rattle.trace_commands.specs.ReadImages.{ReadsImage};
 ghost use Rattle.trace_commands.specs.inner.Answers.{IsAnswered};
-ghost use Rattle.trace_commands.specs.Judge.{ask_of};
+ghost use Rattle.trace_report.specs.ReadStreams.{ask_of};
 ghost use Rattle.trace_report.specs.Streams.{EndsInOne, IsTextOf, streams};
-ghost use Rattle.trace_commands.specs.Tables.{IsMatchOutput, IsMatchedOutput, IsMemoryOfWhole, IsVerdictOf, match_lines};
+ghost use Rattle.trace_commands.specs.Tables.{IsMatchOutput, IsMatchedOutput, IsMemoryOfWhole, IsVerdictOf, look_ups_of};
+ghost use Rattle.trace_commands.specs.Tables.{match_lines};
 ghost use Rattle.trace_commands.specs.inner.Counts.{counted_text};
 
 use crate::image_reader::read_image;
-use crate::judge_command::ask_of;
 use answer_json::match_line;
 use names::{NoMemory, Perms, Verdict, told};
 use std::alloc::Global;
 use std::io::{Read, Write};
 use table_verifier::{LookUps, Steps, VerifiedImage, record_by_image, verify_image};
 use tables::images_are_whole;
-use trace_report::{Fault, Format, Status, fail, write_answer};
+use trace_report::{Fault, Format, Status, ask_of, fail, write_answer};
 
 /// Reads an image from `input` and writes to `answers` its verdict on the name for the permissions asked for, and how many steps
 /// there were; also how many cells were looked up, where states may have a depth; in this format. A fault is reported on `faults`
@@ -94,16 +94,42 @@ fn match_lines(
     ensures { IfOk result (λ text. (verdict : Verdict) × IsVerdictOf image.now name.now ask verdict
         × (text.items ≡ match_lines format image.now name.now verdict)) }
 {
+    let CountedVerdict {
+        verdict,
+        steps,
+        look_ups,
+    } = verdict_by_image(image, name, ask);
+    match format {
+        Format::Text => counted_text(alloc, verdict, steps, look_ups),
+        Format::Json => match_line(alloc, verdict, steps, look_ups),
+    }
+}
+
+/// A verdict by an image, and what it took.
+#[derive(Clone, Copy)]
+pub(crate) struct CountedVerdict {
+    pub(crate) verdict: Verdict,
+    /// The steps: one for each byte of the name.
+    steps: u64,
+    /// The cells that were looked up, where states may have a depth.
+    look_ups: Option<u128>,
+}
+
+/// The verdict of an image that was verified.
+pub(crate) fn verdict_by_image(image: &VerifiedImage<'_>, name: &[u8], ask: Perms) -> CountedVerdict
+    ensures verdict { IsVerdictOf image.now name.now ask result.verdict }
+    ensures steps { result.steps ≡ length name.now }
+    ensures look_ups { result.look_ups ≡ look_ups_of image.now name.now }
+{
     // A depth has few bits, so the look-ups of a name can be counted.
     let depth = image.depth_bound();
     let mut steps = Steps::new();
     let mut lookups = LookUps::new();
-    let verdict = told(&record_by_image(image, name, &mut steps, &mut lookups), ask);
-    let count = steps.count();
-    let cells = known_look_ups(depth, lookups.count());
-    match format {
-        Format::Text => counted_text(alloc, verdict, count, cells),
-        Format::Json => match_line(alloc, verdict, count, cells),
+    let record = record_by_image(image, name, &mut steps, &mut lookups);
+    CountedVerdict {
+        verdict: told(&record, ask),
+        steps: steps.count(),
+        look_ups: known_look_ups(depth, lookups.count()),
     }
 }
 

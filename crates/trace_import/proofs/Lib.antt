@@ -1,3 +1,5 @@
-mod PlaceLaws
 mod JoinedWords
+mod FirstLines
 mod Endings
+mod FailureEndings
+mod AllProfiles

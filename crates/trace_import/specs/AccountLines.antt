@@ -1,15 +1,12 @@
 -- The lines of an import's account: the place of something that isn't taken as written, what it is, what that changes, and its text.
-use Rattle.std.specs.Prelude.{ℕ, List, ◌++◌, codes, decimal}
+use Rattle.std.specs.Prelude.{ℕ, List, ◌++◌, codes}
 use Rattle.apparmor_rules.specs.declared.what.What.{What}
 use Rattle.apparmor_rules.specs.ShownTexts.{shown_text}
 use Rattle.apparmor_rules.specs.Whats.{joined}
 use Rattle.rule_explain.specs.declared.place.Place.{Place}
 use Rattle.apparmor_rules.specs.declared.effect.Effect.{Effect}
 use Rattle.apparmor_rules.specs.EffectText.{effect_text}
-
--- `LINE:COLUMN`
-abbrev pub place_text : Place → List ℕ
-place_text place = decimal place.line ++ (codes ":" ++ decimal place.column)
+use Rattle.import_origins.specs.PlaceText.{place_text}
 
 abbrev pub text_of_effect : Effect → List ℕ
 text_of_effect effect = effect_text effect.chosen effect.on_chosen effect.on_other

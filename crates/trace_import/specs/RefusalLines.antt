@@ -2,7 +2,7 @@
 -- and names.
 use Rattle.std.specs.Prelude.{ℕ, List, [], ◌++◌, codes, decimal, flat_map, map, Option, Some, None}
 use Rattle.apparmor_rules.specs.ShownTexts.{shown_byte, shown_text}
-use Rattle.trace_import.specs.AccountLines.{place_text}
+use Rattle.import_origins.specs.PlaceText.{place_text}
 use Rattle.rule_explain.specs.declared.place.Place.{Place}
 
 abbrev pub refusal_front : ℕ → List ℕ

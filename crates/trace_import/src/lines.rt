@@ -3,8 +3,9 @@ ghost use Rattle.std.specs.Prelude.{◌≡◌, ◌++◌, IfOk, string_bytes};
 ghost use Rattle.apparmor_rules.specs.Whats.{joined};
 ghost use Rattle.trace_import.specs.AccountLines.{account_line, change_told, text_of_effect};
 
-use crate::put::{put, put_place};
+use crate::put::put;
 use apparmor_rules::{Effect, What, shown_text};
+use import_origins::push_place;
 use names::NoMemory;
 use rule_explain::Place;
 use std::alloc::Global;
@@ -21,7 +22,7 @@ pub fn push_account_line(
 ) -> Result<(), NoMemory>
     ensures { IfOk result (λ _. lines.new.items ≡ lines.old.items ++ account_line place whats.now effect bytes.now) }
 {
-    put_place(lines, alloc, place)?;
+    push_place(lines, alloc, place)?;
     put(lines, b": ")?;
     put_whats(lines, whats)?;
     put(lines, b": ")?;

@@ -1,10 +1,10 @@
 //! Why an import is refused.
 ghost use Rattle.std.specs.Prelude.{◌≡◌, ◌++◌, IfOk, codes, decimal, flat_map, map, option_map, string_bytes};
-ghost use Rattle.apparmor_rules.specs.ShownTexts.{shown_byte};
 ghost use Rattle.trace_import.specs.RefusalLines.{at_place, name_line, refusal_front, refusal_text, word_told};
 
-use crate::put::{put, put_place};
-use apparmor_rules::{shown_byte, shown_text};
+use crate::put::put;
+use apparmor_rules::shown_text;
+use import_origins::{push_place, push_shown};
 use names::NoMemory;
 use rule_explain::Place;
 use std::alloc::Global;
@@ -54,7 +54,7 @@ fn put_at(text: &mut Vec<u8>, alloc: Global, place: Option<Place>) -> Result<(),
     match place {
         Some(place) => {
             put(text, b" at ")?;
-            put_place(text, alloc, place)
+            push_place(text, alloc, place)
         }
         None => Ok(()),
     }
@@ -80,17 +80,7 @@ fn put_names(text: &mut Vec<u8>, names: &[&[u8]]) -> Result<(), NoMemory>
 {
     for name in names {
         put(text, b"\n")?;
-        put_name(text, name)?;
-    }
-    Ok(())
-}
-
-/// Adds a name as it is shown.
-fn put_name(text: &mut Vec<u8>, name: &[u8]) -> Result<(), NoMemory>
-    ensures { IfOk result (λ _. text.new.items ≡ text.old.items ++ map shown_byte name.now) }
-{
-    for byte in name {
-        put(text, &[shown_byte(*byte)])?;
+        push_shown(text, name)?;
     }
     Ok(())
 }

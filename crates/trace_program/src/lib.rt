@@ -6,6 +6,8 @@
 
 mod import;
 mod judgment;
+mod name_lists;
+mod notes;
 mod plain;
 mod program;
 mod questions;

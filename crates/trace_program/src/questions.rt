@@ -1,9 +1,9 @@
 //! `any`, `all`, `diff` and `lint`: a question about all names. The profiles of `diff` may have names in the command line.
-ghost use Rattle.std.specs.Prelude.{◌≡◌, ◌||◌, ℕ, IsTrue, List, Some, is_err, is_some, option_map, true};
+ghost use Rattle.std.specs.Prelude.{◌≡◌, ◌||◌, ℕ, IsTrue, List, is_err, is_some, option_map, true};
 ghost use Rattle.std.specs.Io.KnownBytes.{Keeps};
 ghost use Rattle.glob_automaton.specs.Automata.{StateLimit};
-ghost use Rattle.trace_arguments.specs.CommandLine.{profile_value};
-ghost use Rattle.trace_program.specs.Program.{ProgramEnds, reads_nothing};
+ghost use Rattle.trace_arguments.specs.Values.{profile_value};
+ghost use Rattle.trace_program.specs.Program.{CommandEnds, reads_nothing_of};
 ghost use Rattle.trace_program.specs.Questions.{DiffEnds, text_named, witnesses_of};
 ghost use Rattle.trace_questions.specs.Differences.{below_asked};
 ghost use Rattle.trace_report.specs.Streams.{IsTextOf, streams};
@@ -26,10 +26,10 @@ pub(crate) fn ask_of_profile<T: NamedTexts, R: Read, A: Write, F: Write>(
     faults: &mut F,
 ) -> Status
     ensures output { (limit : StateLimit) → (text : List ℕ) × IsTextOf (R.remaining input.old) text
-        × ProgramEnds limit (T.known texts.now) (Some (profile_value question.entry)) text
+        × CommandEnds limit (T.known texts.now) (profile_value question.entry) text
         (streams (A.contents answers.old) (A.contents answers.new) (F.contents faults.old) (F.contents faults.new))
         (R.remaining input.old) (R.remaining input.new) result }
-    ensures unread { reads_nothing (Some (profile_value question.entry)) ≡ true
+    ensures unread { reads_nothing_of (profile_value question.entry) ≡ true
         → Keeps (R.remaining input.old) (R.remaining input.new) }
 {
     match question {

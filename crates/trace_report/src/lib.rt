@@ -14,6 +14,6 @@ mod status;
 pub use fault::Fault;
 pub use format::Format;
 pub use laws::{commands_end_as_they_are_to, questions_end_as_they_are_answered, zero_is_done};
-pub use reader::{asked_by, read_all};
+pub use reader::{ask_of, asked_by, read_all};
 pub use reports::{fail, write_answer, write_finding, write_through};
 pub use status::Status;

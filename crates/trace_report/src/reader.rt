@@ -1,6 +1,6 @@
 //! What commands read: the permissions that a word asks for, and all that a stream has.
 ghost use Rattle.std.specs.Prelude.{◌≡◌};
-ghost use Rattle.trace_report.specs.ReadStreams.{IsTextRead, asked_by};
+ghost use Rattle.trace_report.specs.ReadStreams.{IsAsked, IsTextRead, ask_of, asked_by};
 
 use crate::fault::Fault;
 use names::Perms;
@@ -15,6 +15,18 @@ pub fn asked_by(perms: &str) -> Option<Perms>
         return None;
     }
     Perms::from_letters(perms.as_bytes())
+}
+
+/// The permissions asked for a name, which begins with a slash; or the fault of the arguments.
+pub fn ask_of(perms: &str, name: &str) -> Result<Perms, Fault>
+    ensures { IsAsked (ask_of perms.now name.now) result }
+{
+    let ask = asked_by(perms).ok_or(Fault::Permissions)?;
+    if name.starts_with('/') {
+        Ok(ask)
+    } else {
+        Err(Fault::Name)
+    }
 }
 
 /// All that is left to read.

@@ -38,7 +38,7 @@ module _ {C S : Type 0} (engine : Engine C S) where
   abbrev pub LineDoes : S → Section → ℕ → List ℕ → Section → Lines → S → Type 0
   LineDoes old outside number line next lines new = KindDoes old number (engine.grammar.kind number line) next lines new
   LineDoes old (within start text) number line next lines new = MatchBool (is_end line)
-      ((next ≡ outside) × engine.Does old (engine.grammar.policy text) lines new)
+      ((next ≡ outside) × engine.Does old (engine.grammar.policy start text) lines new)
       ((next ≡ within start (text ++ line ++ line_feed ∷ [])) × (lines ≡ []) × (new ≡ old))
 
   -- a line was followed, or following stopped at it

@@ -128,10 +128,10 @@ pub data Section : Type 0 where
 abbrev pub is_end : List ℕ → Bool
 is_end line = bytes_eq line (codes ".")
 
--- what the line with a number says, and the command that the text of a policy is
+-- what the line with a number says, and the command that the text of a policy is whose `policy` line has a number
 pub record Grammar (C : Type 0) : Type 0 where
   pub kind : ℕ → List ℕ → LineOf C
-  pub policy : List ℕ → C
+  pub policy : ℕ → List ℕ → C
 
 -- a script's lines after the first `before` ones
 abbrev pub script_by : {C : Type 0} → Grammar C → Section → ℕ → List (List ℕ) → ScriptOf C
@@ -145,14 +145,14 @@ script_by grammar outside before (line ∷ lines) = elim (grammar.kind (before +
 ]
 script_by grammar (within start text) before (line ∷ lines) =
     if is_end line
-    then first_command (grammar.policy text) (script_by grammar outside (before + 1) lines)
+    then first_command (grammar.policy start text) (script_by grammar outside (before + 1) lines)
     else script_by grammar (within start (text ++ line ++ line_feed ∷ [])) (before + 1) lines
 
 abbrev pub Script : Type 0
 Script = ScriptOf Command
 
 abbrev pub run_grammar : Grammar Command
-run_grammar = record { kind = λ number line. line_kind (words_of line); policy = publish }
+run_grammar = record { kind = λ number line. line_kind (words_of line); policy = λ start text. publish text }
 
 abbrev pub script_from : Section → ℕ → List (List ℕ) → Script
 script_from section before lines = script_by run_grammar section before lines

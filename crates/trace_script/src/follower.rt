@@ -46,17 +46,18 @@ pub trait LineFollower<T> {
             (state self.new on.new) (A.contents answers.old) (A.contents answers.new) result }
         ensures few { OnOk result (counted self.new on.new ≤ counted self.old on.old + 1) };
 
-    /// Does what the text of a policy says.
+    /// Does what the text of a policy says that the line `start` opened.
     fn do_policy<A: Write>(
         &mut self,
         alloc: Global,
         on: &mut T,
+        start: u64,
         text: &[u8],
         answers: &mut A,
     ) -> Result<(), Stop>
         requires { counted self.old on.old < most_lines }
         ensures line { (limit : StateLimit) →
-            IsPrinted ((engine limit).Does (state self.old on.old) ((engine limit).grammar.policy text.now))
+            IsPrinted ((engine limit).Does (state self.old on.old) ((engine limit).grammar.policy start text.now))
             (state self.new on.new) (A.contents answers.old) (A.contents answers.new) result }
         ensures few { OnOk result (counted self.new on.new ≤ counted self.old on.old + 1) };
 }
@@ -118,7 +119,7 @@ fn follow_line<T, L: LineFollower<T>, A: Write>(
         Section::Outside => follower.do_line(alloc, on, number, line, answers),
         Section::Within { start, text } => {
             if line == b".".as_slice() {
-                follower.do_policy(alloc, on, &text, answers)?;
+                follower.do_policy(alloc, on, start, &text, answers)?;
                 return Ok(Section::Outside);
             }
             let text = with_line(text, line)?;

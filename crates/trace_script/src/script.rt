@@ -79,6 +79,7 @@ impl<B: Bench> LineFollower<B> for Answering {
         &mut self,
         alloc: Global,
         bench: &mut B,
+        _start: u64,
         text: &[u8],
         answers: &mut A,
     ) -> Result<(), Stop> {

@@ -120,7 +120,7 @@ step_kind words = elim (line_kind words) [
 ]
 
 abbrev pub step_grammar : Grammar StepCommand
-step_grammar = record { kind = λ number line. step_kind (words_of line); policy = publish_text }
+step_grammar = record { kind = λ number line. step_kind (words_of line); policy = λ start text. publish_text text }
 
 abbrev pub step_script : List ℕ → ScriptOf StepCommand
 step_script text = script_by step_grammar outside 0 (lines_of text)

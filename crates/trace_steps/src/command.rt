@@ -15,7 +15,7 @@ use trace_script::{ChangeWords, Command, LineKind, Words, is_word, parse_line};
 
 /// A command of a script of events.
 #[derive(Clone, Copy)]
-pub(crate) enum StepCommand<'a> {
+pub enum StepCommand<'a> {
     /// The profile of this name is removed.
     Remove(&'a [u8]),
     /// A change of the tree, done whole.
@@ -44,10 +44,10 @@ pub(crate) enum StepCommand<'a> {
 }
 
 /// A line of a script of events.
-pub(crate) type StepKind<'a> = LineKind<StepCommand<'a>>;
+pub type StepKind<'a> = LineKind<StepCommand<'a>>;
 
 /// What a line says.
-pub(crate) fn parse_step_line(line: &[u8]) -> StepKind<'_>
+pub fn parse_step_line(line: &[u8]) -> StepKind<'_>
     ensures { step_kind_value result ≡ step_kind (words_of line.now) }
 {
     match parse_line(line) {

@@ -14,5 +14,6 @@ mod numbers;
 mod publication;
 mod steps;
 
+pub use command::{StepCommand, StepKind, parse_step_line};
 pub use laws::step_scripts_end_as_they_stop;
 pub use steps::run_steps;

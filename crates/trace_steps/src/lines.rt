@@ -58,6 +58,7 @@ impl<M: EventMachine> LineFollower<M> for Stepping {
         &mut self,
         alloc: Global,
         machine: &mut M,
+        _start: u64,
         text: &[u8],
         answers: &mut A,
     ) -> Result<(), Stop> {

@@ -1,6 +1,11 @@
-mod WordReads
+mod Matches
 mod Expectations
+mod Kept
+mod Maps
+mod ReasonParts
+mod PolicyLines
 mod Outcomes
+mod Statuses
 mod Woven
 mod Plain
 mod NoFloats

@@ -1,4 +1,5 @@
-pub mod TestScript
+pub mod Questions
+pub mod Expectations
 pub mod TestOutput
 pub mod Laws
 pub mod inner

@@ -1,1 +1,4 @@
+pub mod Published
+pub mod Reasons
+pub mod Sentences
 pub mod Tests

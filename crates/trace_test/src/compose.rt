@@ -2,31 +2,50 @@
 ghost use Rattle.std.specs.Prelude.{◌≡◌, ◌++◌, option_map, unwrap_or, IfOk, codes, decimal};
 ghost use Rattle.trace_script.specs.Engine.{IsText};
 ghost use Rattle.trace_report.specs.declared.format.Format.TheVariants as formats;
-ghost use Rattle.trace_test.specs.TestOutput.{count_text, failure_text, shown, shown_byte};
+ghost use Rattle.trace_test.specs.TestOutput.{answer_text, count_text, failure_text, shown, shown_byte};
+ghost use Rattle.trace_test.specs.inner.Sentences.{sentence_of};
 
-use crate::objects::{count_json, failure_json};
+use crate::objects::{answer_json, count_json, failure_json};
 use names::NoMemory;
 use std::alloc::{AllocError, Global};
 use trace_report::Format;
 use trace_script::Stop;
 
-/// The line that reports an expectation that doesn't hold.
+/// The line that reports an expectation that doesn't hold, or a policy that is refused where nothing is expected.
 pub(crate) fn failure_line(
     alloc: Global,
     format: Format,
     number: u64,
-    expected: &[u8],
+    expected: Option<&[u8]>,
     got: Option<&[u8]>,
 ) -> Result<Vec<u8>, Stop>
     ensures { IsText (failure_text format (record {
       number = number;
-      expected = expected.now;
+      expected = option_map (λ text. text.now) expected.entry;
       got = option_map (λ answer. answer.now) got.entry;
     })) result }
 {
     match format {
         Format::Text => failure_sentence(alloc, number, expected, answer_shown(got)),
         Format::Json => match failure_json(alloc, number, expected, got) {
+            Ok(line) => Ok(line),
+            Err(NoMemory) => Err(Stop::Memory),
+        },
+    }
+}
+
+/// The line that shows an answer, which is the line of `run`, or an object.
+pub(crate) fn answer_line(
+    alloc: Global,
+    format: Format,
+    number: u64,
+    answer: &[u8],
+) -> Result<Vec<u8>, Stop>
+    ensures { IsText (answer_text format number answer.now) result }
+{
+    match format {
+        Format::Text => plain_line(alloc, answer),
+        Format::Json => match answer_json(alloc, number, answer) {
             Ok(line) => Ok(line),
             Err(NoMemory) => Err(Stop::Memory),
         },
@@ -61,19 +80,39 @@ fn answer_shown(answer: Option<&[u8]>) -> &[u8]
     }
 }
 
-/// `LINE: expected TEXT, got ANSWER`, as a line.
+/// `LINE: expected TEXT, got ANSWER`, or `LINE: ANSWER` where nothing is expected, as a line.
 fn failure_sentence(
     alloc: Global,
     number: u64,
-    expected: &[u8],
+    expected: Option<&[u8]>,
     got: &[u8],
 ) -> Result<Vec<u8>, Stop>
-    ensures { IsText (decimal number ++ codes ": expected " ++ shown expected.now ++ codes ", got " ++ shown got.now) result }
+    ensures { IsText (decimal number ++ (codes ": " ++ sentence_of (option_map (λ text. text.now) expected.entry) got.now)) result }
 {
-    let mut line = format!(in alloc; "{number}: expected ")?.into_bytes();
-    line.extend_from_slice(&shown(alloc, expected)?)?;
-    line.extend_from_slice(b", got ")?;
+    let mut line = format!(in alloc; "{number}: ")?.into_bytes();
+    if let Some(text) = expected {
+        put_expected(alloc, &mut line, text)?;
+    }
     line.extend_from_slice(&shown(alloc, got)?)?;
+    line.push(b'\n')?;
+    Ok(line)
+}
+
+/// Adds `expected TEXT, got `.
+fn put_expected(alloc: Global, line: &mut Vec<u8>, text: &[u8]) -> Result<(), AllocError>
+    ensures { IfOk result (λ _. line.new.items ≡ line.old.items ++ (codes "expected " ++ (shown text.now ++ codes ", got "))) }
+{
+    line.extend_from_slice(b"expected ")?;
+    line.extend_from_slice(&shown(alloc, text)?)?;
+    line.extend_from_slice(b", got ")?;
+    Ok(())
+}
+
+/// A text as a line.
+fn plain_line(alloc: Global, text: &[u8]) -> Result<Vec<u8>, Stop>
+    ensures { IsText text.now result }
+{
+    let mut line = Vec::from_slice(alloc, text)?;
     line.push(b'\n')?;
     Ok(line)
 }

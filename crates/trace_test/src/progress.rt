@@ -1,9 +1,12 @@
-//! How far a test has come: the last answer, and what became of the expectations.
-ghost use Rattle.std.specs.Prelude.{◌≤◌};
+//! How far a test has come: the last answer, the profiles that were published, and what became of the expectations.
+ghost use Rattle.std.specs.Prelude.{◌≤◌, ◌^◌};
 
-use crate::compose::{count_line, failure_line};
+use crate::compose::{answer_line, count_line, failure_line};
+use crate::matching::is_answer;
+use crate::options::TestOptions;
+use crate::published::Published;
 use std::alloc::Global;
-use trace_report::{Format, Status};
+use trace_report::Status;
 use trace_script::Stop;
 
 /// How far a test has come.
@@ -11,63 +14,111 @@ use trace_script::Stop;
 pub(crate) struct Progress {
     /// The answer of the last command, without its line feed.
     last: Option<Vec<u8>>,
+    /// The number of a `policy` line, if that answer refuses this policy, and nothing is expected of it so far.
+    refused: Option<u64>,
+    /// The profiles that are published.
+    pub(crate) published: Published,
     /// How many expectations hold.
     held: u64,
     /// How many expectations there are.
     total: u64,
-    /// What the outcome is written in.
-    format: Format,
+    /// What is shown.
+    options: TestOptions,
     ghost counted: { held ≤ total },
+    ghost few: { total ≤ 2 ^ 60 },
 }
 
 impl Progress {
-    ghost use Rattle.std.specs.Prelude.{◌≡◌, ◌<◌, ◌+◌, ◌^◌, ◌==◌, ℕ, List, None, option_map, if◌then◌else◌};
+    ghost use Rattle.std.specs.Prelude.{◌≡◌, ◌<◌, ◌+◌, ◌^◌, ◌==◌, ℕ, None, Some, option_map, length, if◌then◌else◌};
     ghost use Rattle.mediation.specs.History.{History};
-    ghost use Rattle.trace_report.specs.Output.{line};
     ghost use Rattle.trace_report.specs.declared.status.Status.TheVariants.{Done, Unmet};
     ghost use Rattle.trace_script.specs.Engine.{IsText};
-    ghost use Rattle.trace_script.specs.RunOutput.{Printed};
-    ghost use Rattle.trace_test.specs.TestOutput.{count_text, failure_text, is_answer};
-    ghost use Rattle.trace_test.specs.inner.Tests.{first_testing, items_of, testing, with_answer, with_one};
+    ghost use Rattle.trace_test.specs.Expectations.{holds_by, text_of, unexpected};
+    ghost use Rattle.trace_test.specs.TestOutput.{failure_text};
+    ghost use Rattle.trace_test.specs.inner.Tests.{IsEnding, IsLinesOf, asked_events, first_testing, last_in, once_answered};
+    ghost use Rattle.trace_test.specs.inner.Tests.{status_by, testing, with_one};
 
     /// The progress before the first line.
-    pub(crate) fn new(format: Format) -> Progress
-        ensures { (history : History) → testing history result ≡ first_testing format history }
+    pub(crate) fn new(alloc: Global, options: TestOptions) -> Progress
+        ensures { (history : History) → testing history result ≡ first_testing options history }
     {
         Progress {
             last: None,
+            refused: None,
+            published: Published::new(alloc),
             held: 0,
             total: 0,
-            format,
+            options,
         }
     }
 
-    /// Records the line that answered a command.
-    pub(crate) fn answer(&mut self, answer: Vec<u8>)
-        ensures state { (history : History) (p : Printed) → answer.items ≡ line p.text
-            → testing p.history self.new ≡ with_answer (testing history self.old) p }
-        ensures total { self.new.total ≡ self.old.total }
+    /// The lines that the answer of a command adds: about a policy that was refused directly before, and the answer itself, where
+    /// answers are shown.
+    pub(crate) fn answer_lines(
+        &self,
+        alloc: Global,
+        number: u64,
+        answer: &[u8],
+    ) -> Result<Vec<u8>, Stop>
+        ensures { IsLinesOf self.now.options (asked_events (last_in self.now) number answer.now) result }
     {
-        let mut last = answer;
-        last.pop();
-        self.last = Some(last);
+        let mut lines = self.refusal_lines(alloc)?;
+        if self.options.answers {
+            let line = answer_line(alloc, self.options.format, number, answer)?;
+            lines.extend_from_slice(&line)?;
+        }
+        Ok(lines)
     }
 
-    /// Counts one more expectation, and returns whether it holds.
+    /// The line about a policy that was refused directly before, where nothing is expected of it.
+    fn refusal_lines(&self, alloc: Global) -> Result<Vec<u8>, Stop>
+        ensures { IsLinesOf self.now.options (unexpected (last_in self.now)) result }
+    {
+        match (self.last(), self.refused) {
+            (Some(answer), Some(number)) => {
+                failure_line(alloc, self.options.format, number, None, Some(answer))
+            }
+            _ => Ok(Vec::new(alloc)),
+        }
+    }
+
+    /// Keeps the answer of a command. A policy that was refused directly before is counted as an expectation that doesn't hold.
+    /// `refused` is the number of a `policy` line, if this answer refuses that policy.
+    pub(crate) fn keep(&mut self, answer: Vec<u8>, refused: Option<u64>)
+        requires { self.old.total < 2 ^ 60 }
+        ensures { (history : History) →
+            testing history self.new ≡ once_answered (testing history self.old) answer.items refused }
+    {
+        self.total = self.count();
+        self.last = Some(answer);
+        self.refused = refused;
+    }
+
+    /// How many expectations there are, if the test ends here: a policy that was refused directly before is one.
+    pub(crate) fn count(&self) -> u64
+        ensures { result ≡ self.now.total + length (unexpected (last_in self.now)) }
+    {
+        match (self.last(), self.refused) {
+            (Some(_), Some(_)) => self.total + 1,
+            _ => self.total,
+        }
+    }
+
+    /// Counts one more expectation, and returns whether it holds. A refusal directly before it was expected.
     pub(crate) fn compare(&mut self, expected: &[u8]) -> bool
         requires { self.old.total < 2 ^ 60 }
-        ensures holds { result ≡ is_answer expected.now (items_of self.old.last) }
+        ensures holds { result ≡ holds_by (Some expected.now) (text_of (last_in self.old)) }
         ensures state { (history : History) → testing history self.new ≡ with_one (testing history self.old) result }
-        ensures total { self.new.total ≡ self.old.total + 1 }
     {
-        let holds = match &self.last {
-            Some(answer) => answer.as_slice() == expected,
+        let holds = match self.last() {
+            Some(answer) => is_answer(expected, answer),
             None => false,
         };
         self.total += 1;
         if holds {
             self.held += 1;
         }
+        self.refused = None;
         holds
     }
 
@@ -78,18 +129,24 @@ impl Progress {
         number: u64,
         expected: &[u8],
     ) -> Result<Vec<u8>, Stop>
-        ensures { IsText (failure_text self.now.format (record {
+        ensures { IsText (failure_text self.now.options.format (record {
           number = number;
-          expected = expected.now;
-          got = items_of self.now.last;
+          expected = Some expected.now;
+          got = text_of (last_in self.now);
         })) result }
     {
-        failure_line(alloc, self.format, number, expected, self.last())
+        failure_line(
+            alloc,
+            self.options.format,
+            number,
+            Some(expected),
+            self.last(),
+        )
     }
 
     /// The last answer.
     fn last(&self) -> Option<&[u8]>
-        ensures { option_map (λ answer. answer.now) result ≡ items_of self.now.last }
+        ensures { option_map (λ answer. answer.now) result ≡ text_of (last_in self.now) }
     {
         match &self.last {
             Some(answer) => Some(answer.as_slice()),
@@ -97,18 +154,25 @@ impl Progress {
         }
     }
 
-    /// The line that says how many expectations hold.
-    pub(crate) fn count_line(&self, alloc: Global) -> Result<Vec<u8>, Stop>
-        ensures { IsText (count_text self.now.format self.now.held self.now.total) result }
+    /// The lines at the end of a test: about a policy that was refused directly before, and how many expectations hold.
+    pub(crate) fn ending(&self, alloc: Global) -> Result<Vec<u8>, Stop>
+        ensures { IsEnding self.now result }
     {
-        count_line(alloc, self.format, self.held, self.total)
+        let mut lines = self.refusal_lines(alloc)?;
+        let count = count_line(alloc, self.options.format, self.held, self.count())?;
+        lines.extend_from_slice(&count)?;
+        Ok(lines)
     }
 
     /// The status of a test that has reached its end.
     pub(crate) fn status(&self) -> Status
-        ensures { result ≡ (if self.now.held == self.now.total then Done else Unmet) }
+        ensures { result ≡ status_by self.now.held (self.now.total + length (unexpected (last_in self.now))) }
     {
-        if self.held == self.total {
+        let total = self.count();
+        if total == 0 {
+            return Status::Unmet;
+        }
+        if self.held == total {
             Status::Done
         } else {
             Status::Unmet

@@ -1,45 +1,38 @@
-//! Worked rows: what the definitions of `specs/` make of short lines and scripts. The functions do nothing: each stands for its
+//! Worked rows: what the definitions of `specs/` make of short scripts. The functions do nothing: each stands for its
 //! contract.
-ghost use Rattle.std.specs.Prelude.{◌≡◌, [], ◌∷◌, ◌++◌, codes, decimal, map, None, Some};
+ghost use Rattle.std.specs.Prelude.{◌≡◌, [], ◌∷◌, ◌++◌, codes, decimal, false, map, true};
 ghost use Rattle.glob_automaton.specs.Automata.{StateLimit};
-ghost use Rattle.mediation.specs.History.{new_history};
+ghost use Rattle.mediation.specs.Deeds.{published_rules};
+ghost use Rattle.mediation.specs.History.{new_history, with_deed};
 ghost use Rattle.trace_report.specs.declared.format.Format.TheVariants.{Text};
-ghost use Rattle.trace_script.specs.Script.{command, ignored, no_command, opens_policy, remove};
-ghost use Rattle.trace_test.specs.TestOutput.{expectations, failure_text, shown};
-ghost use Rattle.trace_test.specs.TestScript.{ask, expect, quoted_words, test_kind, test_script};
+ghost use Rattle.trace_script.specs.Rows.{allow_rule};
+ghost use Rattle.trace_test.specs.Expectations.{expectations, is_answer};
+ghost use Rattle.trace_test.specs.Laws.{answer_lines, asked_of};
+ghost use Rattle.trace_test.specs.TestOutput.{failure_text, shown};
+ghost use Rattle.test_script.specs.TestScript.{test_script};
 
-/// Words in quotes, and lines that have none.
-pub fn quotes_are_read()
-    ensures none { quoted_words (codes "\tmkdir  /a ") ≡ Some (codes "mkdir" ∷ codes "/a" ∷ []) }
-    ensures blanks { quoted_words (codes "open \"a b\" \"/c\td\" r") ≡ Some (codes "open" ∷ codes "a b" ∷ codes "/c\td" ∷ codes "r" ∷ []) }
-    ensures empty { quoted_words (codes "symlink \"\" /l") ≡ Some (codes "symlink" ∷ [] ∷ codes "/l" ∷ []) }
-    ensures within { quoted_words (codes "mkdir /a\"b \"c\"") ≡ Some (codes "mkdir" ∷ codes "/a\"b" ∷ codes "c" ∷ []) }
-    ensures no_escape { quoted_words (codes "mkdir \"/a\\\"") ≡ Some (codes "mkdir" ∷ codes "/a\\" ∷ []) }
-    ensures open { quoted_words (codes "mkdir \"/a b") ≡ None }
-    ensures behind { quoted_words (codes "mkdir \"/a\"b") ≡ None }
-    ensures beside { quoted_words (codes "rename \"/a\"\"/b\"") ≡ None }
-{}
-
-/// Lines of a test.
-pub fn lines_are_read()
-    ensures expectation { test_kind 3 (codes " expect \tok  1 \t") ≡ command (expect 3 (codes "ok  1")) }
-    ensures as_written { test_kind 3 (codes "expect \"ok 1\"") ≡ command (expect 3 (codes "\"ok 1\"")) }
-    ensures no_text { test_kind 3 (codes "expect \t") ≡ no_command }
-    ensures expected_in_quotes { test_kind 3 (codes "\"expect\" ok 1") ≡ no_command }
-    ensures comment { test_kind 3 (codes " # it's \"open") ≡ ignored }
-    ensures comment_in_quotes { test_kind 3 (codes "\"# no comment\"") ≡ no_command }
-    ensures blank { test_kind 3 (codes " \t") ≡ ignored }
-    ensures policy { test_kind 3 (codes "policy") ≡ opens_policy }
-    ensures asked { test_kind 3 (codes "drop \"a b\"") ≡ command (ask (remove (codes "a b"))) }
-    ensures open { test_kind 3 (codes "drop \"a b") ≡ no_command }
-{}
-
-/// The lines of expectations that don't hold: one without a command before it, and two after the same command.
+/// Answers that are expected, and others.
 pub fn expectations_are_told()
-    ensures { (limit : StateLimit) →
+    ensures lines { (limit : StateLimit) →
         map (failure_text Text) (expectations limit (new_history 9)
         (test_script (codes "expect ok 1\n# a directory\nmkdir /a\n\nexpect no\t1\nexpect 2\n")).commands)
         ≡ (decimal 1 ++ codes ": expected ok 1, got nothing")
         ∷ (decimal 5 ++ codes ": expected no?1, got " ++ shown (codes "ok " ++ decimal 1))
         ∷ (decimal 6 ++ codes ": expected 2, got " ++ shown (codes "ok " ++ decimal 1)) ∷ [] }
+    ensures front { is_answer (codes "allowed \t...") (codes "allowed /a node 2") ≡ true }
+    ensures whole { is_answer (codes "allowed ...") (codes "allowed") ≡ true }
+    ensures within_a_word { is_answer (codes "allow ...") (codes "allowed /a node 2") ≡ false }
+    ensures longer { is_answer (codes "allowed /a ...") (codes "allowed") ≡ false }
+    ensures no_last_word { is_answer (codes "allowed...") (codes "allowed /a node 2") ≡ false }
+    ensures not_last { is_answer (codes "... allowed") (codes "allowed") ≡ false }
+{}
+
+/// Questions about names, where a profile of two rules is published.
+pub fn questions_are_answered()
+    ensures { (limit : StateLimit) → let rules = allow_rule (codes "/f") (codes "r") ∷ allow_rule (codes "/g") (codes "wl") ∷ [] in
+        let history = with_deed (new_history 9) (published_rules (record { name = codes "q"; rules = rules })) in
+        answer_lines limit history (asked_of (test_script
+        (codes "judge q /f r\njudge q /g rwa\nexplain q /h kr\njudge q f r\njudge p f r\ndrop q\njudge q / r\n")).commands)
+        ≡ codes "allowed" ∷ codes "no rule for r" ∷ codes "no rule for rk; r: no rule; k: no rule" ∷ codes "bad name" ∷ codes "no profile"
+        ∷ (codes "policy q removed version " ++ decimal 2) ∷ codes "no profile" ∷ [] }
 {}

@@ -1,24 +1,23 @@
 -- The program as its parser knows it, and what the parser finds.
-use Rattle.std.specs.Prelude.{◌≡◌, ◌≤◌, ℕ, Bool, true, false, List, [], ◌∷◌, ◌++◌, map, fold, Option, Some, None, codes}
-use Rattle.std.specs.Prelude.{option_and_then, option_map, pos, unwrap_or, if◌then◌else◌}
+use Rattle.std.specs.Prelude.{◌≡◌, ◌≤◌, ℕ, Bool, true, false, List, [], ◌++◌, map, fold, Option, Some, None, codes}
+use Rattle.std.specs.Prelude.{option_and_then, option_map, unwrap_or, if◌then◌else◌}
 use Rattle.std.specs.Str.{bytes_eq}
 use Rattle.std.specs.Str.Parse.{digits_value, without_leading_plus}
 use Rattle.clap.specs.ValueTests.{is_unsigned_in}
-use Rattle.clap.specs.Words.{App, Row, Rule, all_of, kind_of, new_app, new_rule, first_of, first_value, matched_of, one_of, raw_values}
-use Rattle.clap.specs.Words.{rows_of, subcommand_rows_of, with_rule, with_subcommand}
-use Rattle.clap.specs.declared.builder.action.ArgAction.TheVariants.{Append, SetTrue}
+use Rattle.clap.specs.Words.{App, Row, all_of, kind_of, new_app, first_of, first_value, matched_of, one_of, raw_values}
+use Rattle.clap.specs.Words.{rows_of, subcommand_rows_of, with_subcommand}
 use Rattle.clap.specs.declared.parser.matches.ArgMatches.{ArgMatches}
 use Rattle.clap.specs.declared.parser.matches.Found.{Found}
-use Rattle.clap.specs.declared.builder.value_parser.ValueParser.TheVariants.{Signed}
 use Rattle.clap.specs.declared.error.Error.{Error}
 use Rattle.clap.specs.declared.error.kind.ErrorKind.TheVariants.{OutOfMemory}
-use Rattle.trace_arguments.specs.CommandLine.{ArgumentForm, CommandForm, Given, LineValue, NumberOption, OptionForm, Wants, command_named}
-use Rattle.trace_arguments.specs.CommandLine.{commands, has, has_required, import_of, json, line_of, many_texts}
-use Rattle.trace_arguments.specs.CommandLine.{no_text, number_by, one_number}
-use Rattle.trace_arguments.specs.CommandLine.{name_line, one_text, option_named, pair_command, required, text_given, texts_given}
+use Rattle.trace_forms.specs.Forms.{ArgumentForm, OptionForm, Wants, many_texts, no_text, one_number, one_text}
+use Rattle.trace_forms.specs.Parser.{command_app}
+use Rattle.trace_arguments.specs.Choices.{ChoiceTexts, ImportTexts, import_of}
+use Rattle.trace_arguments.specs.CommandLine.{command_named, commands, explain_of, format_by, line_of, name_command}
+use Rattle.trace_arguments.specs.Given.{CommandForm, Given, has, has_required, number_by, option_named, text_given, texts_given}
+use Rattle.trace_arguments.specs.Values.{CommandValue, ImportValue, LineValue, name_by}
 use Rattle.trace_arguments.specs.declared.line.LineFault.{LineFault}
 use Rattle.trace_arguments.specs.declared.line.LineFault.TheVariants.{Usage, NoMemory}
-use Rattle.trace_arguments.specs.declared.options.NumberOption as declared
 use Rattle.trace_arguments.specs.declared.questions.NameCommand.{NameCommand}
 use Rattle.trace_arguments.specs.declared.questions.NameCommand.TheVariants.{Judge, Explain, Match}
 
@@ -28,52 +27,6 @@ IsLineFaultOf error NoMemory = kind_of error ≡ OutOfMemory
 IsLineFaultOf error (Usage told) = (told ≡ error) × (kind_of error ≡ OutOfMemory → ⊥)
 
 -- ---- the program
-
--- an option, whose value is a number between its bounds
-abbrev pub number_rule : NumberOption → Rule
-number_rule option = record (new_rule option.name) {
-  long = Some option.name;
-  value_names = 1;
-  defaults = option.default ∷ [];
-  parser = Some (Signed (pos option.least) (pos option.most));
-}
-
-abbrev pub number_option : declared.NumberOption → NumberOption
-number_option option = record { name = option.name.now; default = option.default.now; least = option.least; most = option.most }
-
--- an option with a text
-abbrev pub text_rule : List ℕ → Rule
-text_rule name = record (new_rule name) { long = Some name; value_names = 1 }
-
--- an option with a text each time that it is given
-abbrev pub texts_rule : List ℕ → Rule
-texts_rule name = record (text_rule name) { action = Some Append }
-
--- an option that is given or not
-abbrev pub flag_rule : List ℕ → Rule
-flag_rule name = record (new_rule name) { long = Some name; action = Some SetTrue }
-
-abbrev pub rule_by : List ℕ → Wants → Rule
-rule_by name (one_number option) = number_rule option
-rule_by name one_text = text_rule name
-rule_by name many_texts = texts_rule name
-rule_by name no_text = flag_rule name
-
-abbrev pub option_rule : OptionForm → Rule
-option_rule option = rule_by option.name option.wants
-
-abbrev pub argument_rule : ArgumentForm → Rule
-argument_rule argument = record (new_rule argument.name) { required = argument.is_required }
-
-abbrev pub command_app : List ℕ → List OptionForm → List ArgumentForm → App
-command_app name options arguments = fold with_rule (new_app name) (map option_rule options ++ map argument_rule arguments)
-
--- of PERMS and one more argument
-abbrev pub pair_app : List ℕ → List ℕ → App
-pair_app name second = command_app name (json ∷ []) (required (codes "PERMS") ∷ required second ∷ [])
-
-abbrev pub numbers_app : List ℕ → List NumberOption → App
-numbers_app name options = fold with_rule (new_app name) (map number_rule options)
 
 abbrev pub app_by : CommandForm → App
 app_by command = command_app command.name command.options command.arguments
@@ -95,8 +48,8 @@ word_of Judge = codes "judge"
 word_of Explain = codes "explain"
 word_of Match = codes "match"
 
-abbrev pub name_command : NameCommand → CommandForm
-name_command command = pair_command (word_of command) (codes "NAME") (name_line command)
+abbrev pub command_of_name : NameCommand → CommandForm
+command_of_name command = name_command (word_of command) (name_by command)
 
 -- ---- what is found
 
@@ -115,12 +68,41 @@ flag_of text = if bytes_eq text (codes "true") then Some true else (if bytes_eq 
 abbrev pub flag_read : List ℕ → List Row → Option Bool
 flag_read name rows = option_and_then flag_of (one_of name rows)
 
+abbrev pub flag_found : Found → List ℕ → Bool
+flag_found found name = unwrap_or (flag_read name (rows_of found)) false
+
+abbrev pub texts_found : Found → List ℕ → List (List ℕ)
+texts_found found name = unwrap_or (option_map raw_values (matched_of found name)) []
+
+abbrev pub choice_found : Found → ChoiceTexts
+choice_found found = record {
+  profile = first_value found (codes "profile");
+  owner = first_value found (codes "owner");
+  subject = first_value found (codes "for");
+  defines = texts_found found (codes "define");
+  overrides = flag_found found (codes "override");
+}
+
+abbrev pub import_found : Found → ImportTexts
+import_found found = record {
+  choice = choice_found found;
+  all = flag_found found (codes "all");
+  strict = flag_found found (codes "strict");
+  account = first_value found (codes "account");
+  map = first_value found (codes "map");
+}
+
 -- the import that is found, if the texts of its options ask for one
-abbrev pub import_read : Found → Option LineValue
-import_read found =
-    import_of (first_value found (codes "profile")) (first_value found (codes "owner"))
-    (unwrap_or (option_map raw_values (matched_of found (codes "define"))) [])
-    (unwrap_or (flag_read (codes "strict") (rows_of found)) false)
+abbrev pub import_read : Found → Option ImportValue
+import_read found = import_of (import_found found)
+
+abbrev pub text_found : Found → List ℕ → List ℕ
+text_found found name = unwrap_or (first_value found name) []
+
+-- what is found of `explain`
+abbrev pub explain_read : Found → Option CommandValue
+explain_read found = explain_of (text_found found (codes "PERMS")) (text_found found (codes "NAME"))
+    (format_by (flag_found found (codes "json"))) (flag_found found (codes "flattened")) (choice_found found)
 
 -- for an option, the rows have what is given
 abbrev pub HasTexts : List Row → Given → List ℕ → Wants → Type 0
@@ -131,12 +113,17 @@ HasTexts rows given name one_text = first_of name rows ≡ text_given given name
 HasTexts rows given name many_texts = unwrap_or (all_of name rows) [] ≡ texts_given given name
 HasTexts rows given name no_text = flag_read name rows ≡ Some (has given name)
 
+-- what an argument wants, by whether it may be given any number of times
+abbrev pub texts_wanted : Bool → Wants
+texts_wanted true = many_texts
+texts_wanted false = one_text
+
 -- an argument, as an option that has a text
-abbrev pub argument_form : ArgumentForm → OptionForm
-argument_form argument = record { name = argument.name; wants = one_text }
+abbrev pub text_form : ArgumentForm → OptionForm
+text_form argument = record { name = argument.name; wants = texts_wanted argument.is_repeated }
 
 abbrev pub forms_of : CommandForm → List OptionForm
-forms_of command = command.options ++ map argument_form command.arguments
+forms_of command = command.options ++ map text_form command.arguments
 
 -- the rows have what is given of a command, and what it requires is given
 pub record IsGiven (command : CommandForm) (rows : List Row) (given : Given) : Type 0 where

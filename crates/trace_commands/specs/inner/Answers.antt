@@ -4,12 +4,12 @@ use Rattle.std.specs.declared.alloc.Global.{Global}
 use Rattle.names.specs.declared.permissions.Perms.{Perms}
 use Rattle.names.specs.declared.verdict.Verdict.{Verdict}
 use Rattle.answer_json.specs.Lines.{verdict_line}
-use Rattle.trace_commands.specs.Judge.{ask_of}
 use Rattle.trace_report.specs.declared.format.Format.{Format}
 use Rattle.trace_report.specs.declared.fault.Fault.{Fault}
 use Rattle.trace_report.specs.declared.fault.Fault.TheVariants.{Permissions, Name, Image, Input, Memory}
 use Rattle.tables.specs.Images.{IsFirstImageFault}
 use Rattle.tables.specs.declared.fault.ImageFault.{ImageFault}
+use Rattle.trace_report.specs.ReadStreams.{ask_of}
 use Rattle.trace_report.specs.Streams.{IsTextOf}
 use Rattle.trace_report.specs.Fault.{IsFaultOf, IsFaultOfOne, fault_text}
 use Rattle.trace_report.specs.Output.{Output, whole_answer}
@@ -18,11 +18,6 @@ use Rattle.trace_report.specs.Output.{Output, whole_answer}
 abbrev pub IsJudged : Format → Output → Result Verdict Fault → Type 0
 IsJudged format output (Ok verdict) = output ≡ whole_answer (verdict_line format verdict)
 IsJudged format output (Err f) = IsFaultOf output f
-
--- the permissions asked for, or which of the arguments is bad
-abbrev pub IsAsked : Result Perms (List ℕ) → Result Perms Fault → Type 0
-IsAsked wanted (Ok ask) = wanted ≡ Ok ask
-IsAsked wanted (Err f) = (wanted ≡ Err (fault_text f)) × (f ≡ Permissions ⊎ f ≡ Name)
 
 -- all that was left has this first fault
 abbrev pub IsRefusedText : Option (List ℕ) → Fault → Type 0

@@ -15,7 +15,7 @@ use Rattle.rule_reader.specs.declared.fault.ReadFault.{ReadFault}
 use Rattle.trace_report.specs.Fault.{AreGood, IsFaultOfOne}
 use Rattle.trace_commands.specs.inner.Answers.{IsAnswered}
 use Rattle.trace_report.specs.Fault.{fault_of_image, fault_text}
-use Rattle.trace_commands.specs.Judge.{ask_of}
+use Rattle.trace_report.specs.ReadStreams.{ask_of}
 use Rattle.trace_report.specs.Output.{Output, compile_refusal, fault, image_refusal, refusal, whole_answer}
 use Rattle.trace_report.specs.Streams.{Ends, EndsInOne, Streams}
 use Rattle.trace_commands.specs.Tables.{IsCheckOutput, IsCompileOutput, IsCompileOutputOf, IsImageRefused, IsMatchOutput, IsMemoryOfWhole}

@@ -142,10 +142,10 @@ module _ {C S : Type 0} (engine : Engine C S) where
         by no_command does = absurd does
     next_line (within start text) does = by (is_end line) does
       where
-        by : (b : Bool) → MatchBool b ((next ≡ outside) × engine.Does old (engine.grammar.policy text) lines new)
+        by : (b : Bool) → MatchBool b ((next ≡ outside) × engine.Does old (engine.grammar.policy start text) lines new)
             ((next ≡ within start (text ++ line ++ line_feed ∷ [])) × (lines ≡ []) × (new ≡ old))
             → Comes (λ left. script_within engine.grammar start text before line left b)
-        by true (to, does) = one _ (engine.grammar.policy text) to does (λ left. refl)
+        by true (to, does) = one _ (engine.grammar.policy start text) to does (λ left. refl)
         by false (to, none, same) = nothing _ (within start (text ++ line ++ line_feed ∷ [])) to none same (λ left. refl)
 
   -- no command is on the line

@@ -14,7 +14,7 @@ module _ {C : Type 0} (grammar : Grammar C) where
 
   abbrev pub script_within : ℕ → List ℕ → ℕ → List ℕ → List (List ℕ) → Bool → ScriptOf C
   script_within start text before line left ends =
-      cond ends (first_command (grammar.policy text) (script_by grammar outside (before + 1) left))
+      cond ends (first_command (grammar.policy start text) (script_by grammar outside (before + 1) left))
       (script_by grammar (within start (text ++ line ++ line_feed ∷ [])) (before + 1) left)
 
   -- a line has one command at most

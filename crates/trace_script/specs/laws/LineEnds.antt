@@ -47,7 +47,7 @@ module _ {C S : Type 0} (engine : Engine C S) (old : S) where
 
   abbrev DoesWithin : ℕ → List ℕ → List ℕ → Section → Lines → S → Bool → Type 0
   DoesWithin start text line next lines new ends = MatchBool ends
-      ((next ≡ outside) × engine.Does old (engine.grammar.policy text) lines new)
+      ((next ≡ outside) × engine.Does old (engine.grammar.policy start text) lines new)
       ((next ≡ within start (text ++ line ++ line_feed ∷ [])) × (lines ≡ []) × (new ≡ old))
 
   module _ (section : SectionHere) (start : ℕ) (text : Vec ℕ Global) (number : ℕ) (line : List ℕ) (is : section ≡ Within start text) where
@@ -59,10 +59,10 @@ module _ {C S : Type 0} (engine : Engine C S) (old : S) where
         subst P (sym is) (subst (DoesWithin start text.items line next lines new) (sym at) does)
 
     pub within_ends : (seen : List ℕ) (lines : Lines) (new : S) → is_end line ≡ true → seen ≡ text.items →
-        engine.Does old (engine.grammar.policy seen) lines new
+        engine.Does old (engine.grammar.policy start seen) lines new
         → LineDoes engine old (section_value section) number line outside lines new
     within_ends seen lines new ends same does = from_within true outside lines new ends
-        (refl, subst (λ (bytes : List ℕ). engine.Does old (engine.grammar.policy bytes) lines new) same does)
+        (refl, subst (λ (bytes : List ℕ). engine.Does old (engine.grammar.policy start bytes) lines new) same does)
 
     pub within_goes_on : (longer : List ℕ) → is_end line ≡ false → longer ≡ text.items ++ line ++ line_feed ∷ [] →
         LineDoes engine old (section_value section) number line (within start longer) [] old
@@ -70,8 +70,8 @@ module _ {C S : Type 0} (engine : Engine C S) (old : S) where
 
     pub policy_stopped : (seen : List ℕ) (new : S) (before after : Option (List ℕ)) (stop : Stop) → is_end line ≡ true →
         seen ≡ text.items
-        → IsPrinted {T = Unit {0}} (engine.Does old (engine.grammar.policy seen)) new before after (Err stop)
+        → IsPrinted {T = Unit {0}} (engine.Does old (engine.grammar.policy start seen)) new before after (Err stop)
         → IsLineFollowed engine old (section_value section) number line new before after (Err stop)
     policy_stopped seen new before after stop ends same h =
-        line_stopped (section_value section) number line new before after (engine.Does old (engine.grammar.policy seen)) outside stop
+        line_stopped (section_value section) number line new before after (engine.Does old (engine.grammar.policy start seen)) outside stop
         (λ lines reached does. within_ends seen lines reached ends same does) h

@@ -10,7 +10,7 @@ use Rattle.import_spans.specs.CutStates as cuts
 use Rattle.import_profile.specs.ImportedPaths.{imported_paths}
 use Rattle.import_scope.specs.Scopes.{at_start}
 use Rattle.import_profile.specs.declared.options.ImportOptions.{ImportOptions}
-use Rattle.import_profile.specs.Imports.{ImportValue, choice_of}
+use Rattle.import_profile.specs.Imports.{ImportValue, choice_of, items_seen}
 use Rattle.import_profile.specs.Restated.{PlacedValue, all_rules, cut_for}
 use Rattle.import_laws.proofs.Opened.{Opened, known, opened, placed_values}
 use Rattle.import_laws.proofs.Readable.{all_good, at_most, names_are_said, rules_pass}
@@ -29,7 +29,7 @@ is_readable readable options text value o =
     let values = placed_values options o.items o.number o.head in
     let rules = map (λ (r : PlacedValue). r.value) values in
     let cut = cut_for variables choice o.items in
-    let name = names_are_said (at_start options.defines.now) o.items o.number o.head tt o.faultless o.found in
+    let name = names_are_said (at_start options.defines.now) (items_seen options o.items) o.number o.head tt o.faultless o.found in
     let same = length-map values (λ (r : PlacedValue). r.value) in
     let most = at_most values 1024 o.few in
     let few = few_pass (length rules) (omega (arith, same, most)) in

@@ -4,6 +4,7 @@ use Rattle.apparmor_variables.specs.Variables.{Variable}
 use Rattle.apparmor_variables.proofs.Places.{first_of_two}
 use Rattle.import_scope.specs.declared.fault.ScopeFault.{ScopeFault}
 use Rattle.import_scope.specs.FirstFaults.{FirstFault, nothing_counted}
+use Rattle.import_scope.specs.Overrides.{items_given}
 use Rattle.import_scope.specs.Scopes.{ScopeState, Head, Fault, at_start}
 use Rattle.import_scope.specs.Told.{fault_value}
 use Rattle.import_scope.specs.inner.Outlines.{AskedValue, asked_value, last_state, head_stop, all_asked}
@@ -38,17 +39,19 @@ pub returns-in-Some-clause-fault : goal.returns-in-Some-clause-fault
 returns-in-Some-clause-fault c =
     let g = c.in_ok-outline.ensures in
     let s = at_start c.args.defines.now in
-    let p = passed s c.args.items.now _ c.deref.result.now c.deref-2.result.now (map asked_value c.deref-3.result.now)
+    let all = items_given c.args.overrides c.args.defines.now c.args.items.now in
+    let p = passed s all _ c.deref.result.now c.deref-2.result.now (map asked_value c.deref-3.result.now)
     (option_map fault_value c.in_ok-fault.field-0) _ g.state (c.deref.ensures.value ∙ c.in_ok-variables.ensures)
     c.deref-2.ensures.value (ap (map asked_value) c.deref-3.ensures.value ∙ g.asked) g.stop c.in_ok-fault.ensures in
-    subst (λ (o : Option ScopeFault). FirstFault s c.args.items.now
+    subst (λ (o : Option ScopeFault). FirstFault s all
     (first_of_two (option_map fault_value o) (option_map fault_value c.in_ok-outline.stop))) c.in-Some.is p
 
 pub returns-in-Some-stop-clause-fault : goal.returns-in-Some-stop-clause-fault
 returns-in-Some-stop-clause-fault c =
     let g = c.in_ok-outline.ensures in
     let s = at_start c.args.defines.now in
-    let p = passed s c.args.items.now _ c.deref.result.now c.deref-2.result.now (map asked_value c.deref-3.result.now)
+    let all = items_given c.args.overrides c.args.defines.now c.args.items.now in
+    let p = passed s all _ c.deref.result.now c.deref-2.result.now (map asked_value c.deref-3.result.now)
     (option_map fault_value c.in_ok-fault.field-0) _ g.state (c.deref.ensures.value ∙ c.in_ok-variables.ensures)
     c.deref-2.ensures.value (ap (map asked_value) c.deref-3.ensures.value ∙ g.asked) g.stop c.in_ok-fault.ensures in
     rw (c.in_default.is, c.in-Some-stop.is) at p
@@ -57,7 +60,8 @@ pub returns-clause-faultless : goal.returns-clause-faultless
 returns-clause-faultless c =
     let g = c.in_ok-outline.ensures in
     let s = at_start c.args.defines.now in
-    let p = passed s c.args.items.now _ c.deref.result.now c.deref-2.result.now (map asked_value c.deref-3.result.now)
+    let all = items_given c.args.overrides c.args.defines.now c.args.items.now in
+    let p = passed s all _ c.deref.result.now c.deref-2.result.now (map asked_value c.deref-3.result.now)
     (option_map fault_value c.in_ok-fault.field-0) _ g.state (c.deref.ensures.value ∙ c.in_ok-variables.ensures)
     c.deref-2.ensures.value (ap (map asked_value) c.deref-3.ensures.value ∙ g.asked) g.stop c.in_ok-fault.ensures in
     rw (c.in_default.is, c.in-None.is) at p
@@ -66,17 +70,20 @@ pub returns-clause-variables : goal.returns-clause-variables
 returns-clause-variables c =
     let g = c.in_ok-outline.ensures in
     let s = at_start c.args.defines.now in
+    let all = items_given c.args.overrides c.args.defines.now c.args.items.now in
     c.in_ok-variables.ensures ∙ ap (λ (x : ScopeState). x.declared)
-    (g.state ∙ last_is_behind s c.args.items.now (no_stop s c.args.items.now c.in_ok-outline.stop g.stop c.in-None.is))
+    (g.state ∙ last_is_behind s all (no_stop s all c.in_ok-outline.stop g.stop c.in-None.is))
 
 pub returns-clause-profiles : goal.returns-clause-profiles
 returns-clause-profiles c =
     let g = c.in_ok-outline.ensures in
     let s = at_start c.args.defines.now in
+    let all = items_given c.args.overrides c.args.defines.now c.args.items.now in
     ap (λ (x : ScopeState). x.profiles)
-    (g.state ∙ last_is_behind s c.args.items.now (no_stop s c.args.items.now c.in_ok-outline.stop g.stop c.in-None.is))
+    (g.state ∙ last_is_behind s all (no_stop s all c.in_ok-outline.stop g.stop c.in-None.is))
 
 pub returns-clause-names : goal.returns-clause-names
 returns-clause-names c =
     let g = c.in_ok-outline.ensures in
-    subst (λ (x : ScopeState). AreNamed x.profiles) (sym g.state) (named_last (at_start c.args.defines.now) c.args.items.now tt)
+    subst (λ (x : ScopeState). AreNamed x.profiles) (sym g.state) (named_last (at_start c.args.defines.now)
+    (items_given c.args.overrides c.args.defines.now c.args.items.now) tt)

@@ -1,18 +1,23 @@
 use Rattle.std.proofs.Common.{codes, refl}
 use Rattle.clap.specs.Words.{found_of}
-use Rattle.trace_arguments.specs.CommandLine.{all_command, all_names}
-use Rattle.trace_arguments.proofs.Asked.{flag_asked, pair_line, pair_perms, pair_second}
+use Rattle.trace_arguments.specs.CommandLine.{all_command}
+use Rattle.trace_arguments.proofs.Asked.{flag_asked, format_said, perms_asked, second_asked, text_said}
 use Rattle.trace_arguments.proofs.lines.all_in.Goals as goal
 
 pub text_in-requires : goal.text_in-requires
-text_in-requires c = pair_perms (codes "all") (codes "PATTERN") all_names (found_of c.args.found.now) c.requires
+text_in-requires c = perms_asked all_command (codes "PATTERN") refl (found_of c.args.found.now) c.requires refl
 
 pub text_in-requires-2 : goal.text_in-requires-2
-text_in-requires-2 c = pair_second (codes "all") (codes "PATTERN") all_names (found_of c.args.found.now) c.requires refl
+text_in-requires-2 c = second_asked all_command (codes "PATTERN") refl (found_of c.args.found.now) c.requires refl
 
 pub format_in-requires : goal.format_in-requires
 format_in-requires c = flag_asked all_command (found_of c.args.found.now) c.requires (codes "json") refl
 
 pub returns : goal.returns
-returns c = pair_line (codes "all") (codes "PATTERN") all_names (found_of c.args.found.now) c.text_in.result.now c.text_in-2.result.now
-    c.format_in.result refl c.text_in.ensures c.text_in-2.ensures c.format_in.ensures
+returns c = λ given is.
+    let found = found_of c.args.found.now in
+    rw (
+      text_said all_command found given is (codes "PERMS") c.text_in.result.now refl c.text_in.ensures,
+      text_said all_command found given is (codes "PATTERN") c.text_in-2.result.now refl c.text_in-2.ensures,
+      format_said all_command found given is c.format_in.result refl c.format_in.ensures,
+    ) refl

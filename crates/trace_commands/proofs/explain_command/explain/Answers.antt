@@ -1,6 +1,6 @@
 use Rattle.std.proofs.Common.{◌≡◌, Ok}
 use Rattle.trace_report.specs.laws.Endings.{ends_told}
-use Rattle.trace_commands.specs.Judge.{ask_of}
+use Rattle.trace_report.specs.ReadStreams.{ask_of}
 use Rattle.trace_commands.proofs.ExplainEndings.{explained_so}
 use Rattle.trace_commands.proofs.explain_command.explain.Goals as goal
 

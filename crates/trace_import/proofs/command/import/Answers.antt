@@ -1,5 +1,6 @@
 use Rattle.trace_report.specs.laws.Endings.{text_of}
-use Rattle.trace_import.proofs.Endings.{unread}
+use Rattle.trace_import.specs.Import.{IsImportOutput}
+use Rattle.trace_import.proofs.Endings.{good, unread}
 use Rattle.trace_import.proofs.command.import.Goals as goal
 
 pub returns-in-Err : goal.returns-in-Err
@@ -8,5 +9,6 @@ returns-in-Err g c =
     record {
       text = text.0;
       is_text = text.1;
-      ends = unread c.args.options text.0 c.in-Err.fault _ _ _ c.fail.result c.in-Err.ensures (rw c.status.ensures at c.fail.ensures);
+      ends = unread (IsImportOutput c.args.account c.args.options text.0) c.in-Err.fault _ _ _ c.fail.result
+          (good c.args.account c.args.options text.0) c.in-Err.ensures (rw c.status.ensures at c.fail.ensures);
     }

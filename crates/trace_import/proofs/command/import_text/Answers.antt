@@ -1,11 +1,13 @@
-use Rattle.std.proofs.Common.{Err}
+use Rattle.std.proofs.Common.{Err, refl}
+use Rattle.import_profile.specs.Faults.{ImportFault}
 use Rattle.import_profile.specs.Imports.{Imports}
-use Rattle.import_profile.specs.Told.{import_fault_value}
-use Rattle.trace_import.proofs.Endings.{refused_so}
+use Rattle.trace_import.specs.Import.{IsImportOutput}
+use Rattle.trace_import.proofs.Endings.{good}
+use Rattle.trace_import.proofs.FailureEndings.{failed_so}
 use Rattle.trace_import.proofs.command.import_text.Goals as goal
 
-pub returns-in-Err-At : goal.returns-in-Err-At
-returns-in-Err-At g c =
-    let is : Imports c.args.options c.args.text.now (Err (import_fault_value c.in-Err-At.fault)) =
-    rw (c.in-Err-At.is, c.in-Err-At.field-0-is) at c.import_profile.ensures in
-    refused_so c.args.options c.args.text.now _ _ _ _ c.refuse.result is c.refuse.ensures
+pub returns-in-Err : goal.returns-in-Err
+returns-in-Err g c =
+    failed_so (IsImportOutput c.args.account c.args.options c.args.text.now)
+    (λ (f : ImportFault). Imports c.args.options c.args.text.now (Err f)) c.args.text.now _ _ _ c.in-Err.failure c.refuse_failed.result
+    (good c.args.account c.args.options c.args.text.now) (λ f is. (Err f, is, refl)) c.in-Err.ensures c.refuse_failed.ensures

@@ -1,6 +1,6 @@
 -- The first values are taken.
 use Rattle.std.proofs.Common.{◌≡◌, map, take}
-use Rattle.trace_arguments.specs.CommandLine.{define_value}
+use Rattle.trace_arguments.specs.Values.{define_value}
 use Rattle.trace_program.specs.Import.{defined_pair}
 use Rattle.trace_program.proofs.import.defines_of.Given as goal
 

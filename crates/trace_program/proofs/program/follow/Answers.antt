@@ -1,4 +1,5 @@
 -- Each command ends as its function says.
+use Rattle.std.proofs.Common.{inl}
 use Rattle.trace_report.specs.laws.Endings.{text_of}
 use Rattle.trace_program.proofs.program.follow.Goals as goal
 
@@ -31,3 +32,23 @@ pub returns-in-Storm-clause-output : goal.returns-in-Storm-clause-output
 returns-in-Storm-clause-output g c limit =
     let text = text_of (g.R.Read.remaining c.args.input.now) in
     (text.0, text.1, rw c.in-Storm.is c.storm.ensures)
+
+pub returns-in-ExplainFlattened-clause-output : goal.returns-in-ExplainFlattened-clause-output
+returns-in-ExplainFlattened-clause-output g c limit =
+    let asked = c.explain_flattened.ensures.output in
+    (asked.0, asked.1, rw c.in-ExplainFlattened.is asked.2)
+
+pub returns-in-Import-clause-output : goal.returns-in-Import-clause-output
+returns-in-Import-clause-output g c limit =
+    let asked = c.import.ensures in
+    (asked.0, asked.1, rw c.in-Import.is asked.2)
+
+pub returns-in-Names-clause-output : goal.returns-in-Names-clause-output
+returns-in-Names-clause-output g c limit =
+    let asked = c.names.ensures.output in
+    (asked.0, asked.1, rw c.in-Names.is (inl asked.2))
+
+pub returns-in-Audit-clause-output : goal.returns-in-Audit-clause-output
+returns-in-Audit-clause-output g c limit =
+    let asked = rw c.deref.ensures.value at c.audit.ensures in
+    (asked.log, asked.is_log, rw c.in-Audit.is asked)

@@ -9,11 +9,11 @@ use Rattle.trace_program.proofs.test.test.Goals as goal
 pub returns-in-Err : goal.returns-in-Err
 returns-in-Err g c limit =
     let text = text_of (g.R.Read.remaining c.args.input.now) in
-    (text.0, text.1, nothing_tested c.args.format limit c.args.capacity text.0 _ _ _ _ c.fail.result c.fail.ensures)
+    (text.0, text.1, nothing_tested c.args.options limit c.args.capacity text.0 _ _ _ _ c.fail.result c.fail.ensures)
 
 pub returns-in-Ok : goal.returns-in-Ok
 returns-in-Ok g c limit =
-    let P : History → Type 0 = λ history. (text : List ℕ) × IsTextOf (g.R.Read.remaining c.args.input.now) text × TestEnds c.args.format
+    let P : History → Type 0 = λ history. (text : List ℕ) × IsTextOf (g.R.Read.remaining c.args.input.now) text × TestEnds c.args.options
     limit
     (streams (g.A.Write.contents c.args.answers.now) (g.A.Write.contents c.run_test-status.new.answers)
     (g.F.Write.contents c.args.faults.now) (g.F.Write.contents c.run_test-status.new.faults))

@@ -1,22 +1,17 @@
 use Rattle.std.proofs.Common.{sym, subst}
 use Rattle.trace_script.specs.FollowedScripts.{IsPrinted, IsStep}
-use Rattle.trace_script.specs.LineValues.{command_value}
-use Rattle.trace_script.specs.RunOutput.{printed}
-use Rattle.trace_test.specs.declared.line.TestCommand.{TestCommand}
-use Rattle.trace_test.specs.inner.Tests.{test_step, test_value, testing}
-use Rattle.trace_test.proofs.Expectations.{asked_done}
+use Rattle.test_script.specs.declared.line.TestCommand.{TestCommand}
+use Rattle.trace_test.specs.inner.Tests.{test_step, testing}
+use Rattle.test_script.specs.LineValues.{test_value}
 use Rattle.trace_test.proofs.lines.do_command.Goals as goal
 
 pub returns-in-Ask-clause-done : goal.returns-in-Ask-clause-done
 returns-in-Ask-clause-done g c limit =
-    let history = g.B.Bench.history c.args.bench.now in
-    let t = testing history c.args.progress.now in
-    let state = testing (g.B.Bench.history c.ask.new.bench) c.ask.new.progress in
-    let answers = g.A.Write.contents c.args.answers.now in
-    let P : TestCommand → Type 0 = λ command. IsPrinted (IsStep (test_step limit t (test_value command))) state answers answers
-    c.ask.result in
-    subst P (sym c.in-Ask.is) (asked_done t (printed limit history (command_value c.in-Ask.command)) state answers c.ask.result
-    (c.ask.ensures.done limit))
+    let t = testing (g.B.Bench.history c.args.bench.now) c.args.progress.now in
+    let P : TestCommand → Type 0 = λ command. IsPrinted (IsStep (test_step limit t (test_value command)))
+    (testing (g.B.Bench.history c.ask.new.bench) c.ask.new.progress) (g.A.Write.contents c.args.answers.now)
+    (g.A.Write.contents c.ask.new.answers) c.ask.result in
+    subst P (sym c.in-Ask.is) (c.ask.ensures.done limit)
 
 pub returns-in-Expect-clause-done : goal.returns-in-Expect-clause-done
 returns-in-Expect-clause-done g c limit =

@@ -7,6 +7,7 @@ use Rattle.trace_test.proofs.objects.failure_json.Goals as goal
 pub json_line-requires : goal.json_line-requires
 json_line-requires c = record {
   integers = ap has_float c.in-Ok.ensures
-      ∙ neither (has_float (view c.in_ok-expected.expected)) (has_float (view c.in_ok-got.got)) c.in_ok-expected.ensures.integers
+      ∙ neither (has_float (view c.in_ok-expected.expected)) (has_float (view c.in_ok-got.got))
+      (ap has_float c.in_ok-expected.ensures ∙ no_float_in_option _)
       (ap has_float c.in_ok-got.ensures ∙ no_float_in_option _);
 }

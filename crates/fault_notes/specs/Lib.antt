@@ -1,0 +1,7 @@
+pub mod Sentences
+pub mod ProfileNotes
+pub mod ImageNotes
+pub mod VariableNotes
+pub mod ImportNotes
+pub mod AllImportNotes
+pub mod inner

@@ -1,0 +1,4 @@
+mod PlaceLaws
+mod MarkLaws
+mod PartLaws
+mod NoFloats

@@ -1,0 +1,5 @@
+pub mod Lines
+pub mod ScriptLines
+pub mod Forms
+pub mod ControlBytes
+pub mod ScriptNotes

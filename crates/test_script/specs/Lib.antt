@@ -1,0 +1,3 @@
+pub mod TestScript
+pub mod LineValues
+pub mod inner

@@ -1,0 +1,4 @@
+use Rattle.trace_arguments.proofs.parser.with_list_commands.Goals as goal
+
+pub returns : goal.returns
+returns c = c.with_commands.ensures

@@ -1,0 +1,16 @@
+mod Noting
+mod JoinedNumbers
+mod PlainItems
+mod PlainRules
+mod FloatLaws
+mod AllLines
+mod FoundLaws
+mod SameDenials
+mod Ends
+mod Parts
+mod Chosen
+mod SameObjects
+mod Known
+mod TextLaws
+mod NoLetters
+mod AllowedMore

@@ -1,0 +1,14 @@
+use Rattle.std.proofs.Common.{Err, Ok, refl}
+use Rattle.import_profile.specs.Faults.{ImportFault}
+use Rattle.import_profile.specs.Imports.{Imports}
+use Rattle.trace_import.specs.ExplainFlattened.{IsAskedOutput}
+use Rattle.trace_import.proofs.Endings.{explained_good}
+use Rattle.trace_import.proofs.FailureEndings.{failed_so}
+use Rattle.trace_import.proofs.explain.explain_text.Goals as goal
+
+pub returns-in-Err : goal.returns-in-Err
+returns-in-Err g c =
+    failed_so (IsAskedOutput c.args.format c.args.options (Ok c.args.ask) c.args.name.now c.args.text.now)
+    (λ (f : ImportFault). Imports c.args.options c.args.text.now (Err f)) c.args.text.now _ _ _ c.in-Err.failure c.refuse_failed.result
+    (explained_good c.args.format c.args.options c.args.ask c.args.name.now c.args.text.now) (λ f is. (Err f, is, refl)) c.in-Err.ensures
+    c.refuse_failed.ensures

@@ -1,7 +1,0 @@
--- The bytes so far were added.
-use Rattle.std.proofs.Common.{◌≡◌, ◌++◌, map, take}
-use Rattle.apparmor_rules.specs.ShownTexts.{shown_byte}
-use Rattle.trace_import.proofs.refusal.put_name.Given as goal
-
-abbrev pub invariant-loop-byte : goal.invariant-loop-byte
-invariant-loop-byte l = l.text.items ≡ l.initial.text.items ++ map shown_byte (take l.byte-index l.name)

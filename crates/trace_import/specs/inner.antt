@@ -1,0 +1,3 @@
+pub mod AllTexts
+pub mod Failures
+pub mod WrittenMaps

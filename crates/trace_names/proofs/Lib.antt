@@ -1,0 +1,4 @@
+pub mod Lists
+pub mod Joined
+pub mod Selections
+pub mod Faults

@@ -1,0 +1,4 @@
+pub mod Choices
+pub mod NameLists
+pub mod Names
+pub mod inner
