@@ -8,8 +8,8 @@ MOST_BEFORE = 36
 DOTS = b".."
 LONGEST_WORD = 40
 FLATTEN = "flatten the text first: apparmor_parser -qQp FILE"
-IMPORT_TAKES = frozenset("""@ @{ ^ ( -> abi audit capability change_profile dbus file flags hat io_uring link mount mqueue network other owner
-pivot_root priority profile ptrace remount safe set signal umount unix unsafe userns xattrs""".split())
+IMPORT_TAKES = frozenset("""@ @{ ^ ( -> abi audit capability change_profile dbus file flags hat io_uring link mount mqueue network other
+owner pivot_root priority profile ptrace remount safe set signal umount unix unsafe userns xattrs""".split())
 SENTENCES = {
     Kind.SYNTAX: "syntax error",
     Kind.PERMISSION: "no permissions",

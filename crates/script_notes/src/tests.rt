@@ -44,7 +44,8 @@ fn scripts_of_run(rt: HostRuntime) -> Result<(), Fail> {
         ),
         (
             b"mkdir /\x01a\nmkdir /\x02\npolicy\nprofile p {\n",
-            b"line 1: a control byte is in a word, to which it belongs\nline 3: the policy that begins here has no end, which is a line with a single dot\n",
+            b"line 1: a control byte is in a word, to which it belongs\n\
+              line 3: the policy that begins here has no end, which is a line with a single dot\n",
         ),
     ];
     for (text, notes) in rows {

@@ -67,7 +67,8 @@ pub(crate) fn choice_in<'a>(
         return Err(text_fault(
             alloc,
             form,
-            "--define takes VAR=VALUE, where VAR is a letter and then letters, digits and _, and not profile_name, and no open backslash ends VALUE",
+            "--define takes VAR=VALUE, where VAR is a letter and then letters, digits and _, and not profile_name, \
+             and no open backslash ends VALUE",
         ));
     };
     Ok(ImportChoice {

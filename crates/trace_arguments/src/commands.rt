@@ -131,7 +131,8 @@ const PATTERN: ArgumentForm = ArgumentForm {
 const JUDGE: CommandForm = CommandForm {
     name: "judge",
     about: "Judges a name by the profile on standard input",
-    examples: "Examples:\n  aa-trace judge r /etc/passwd < web.profile\n  aa-trace judge -q w /srv/www/index.html < web.profile && echo allowed",
+    examples: "Examples:\n  aa-trace judge r /etc/passwd < web.profile\n  \
+               aa-trace judge -q w /srv/www/index.html < web.profile && echo allowed",
     options: &[VERBOSE, QUIET, JSON],
     arguments: &[PERMS, NAME],
 };
@@ -140,7 +141,8 @@ const JUDGE: CommandForm = CommandForm {
 pub(crate) const EXPLAIN: CommandForm = CommandForm {
     name: "explain",
     about: "Judges a name by the profile on standard input, and says why",
-    examples: "Examples:\n  aa-trace explain rw /etc/passwd < web.profile\n  apparmor_parser -qQp /etc/apparmor.d/usr.bin.man | aa-trace explain --flattened r /etc/passwd",
+    examples: "Examples:\n  aa-trace explain rw /etc/passwd < web.profile\n  \
+               apparmor_parser -qQp /etc/apparmor.d/usr.bin.man | aa-trace explain --flattened r /etc/passwd",
     options: &[
         OptionForm {
             name: "flattened",
@@ -295,7 +297,8 @@ const STORM: CommandForm = CommandForm {
 pub(crate) const IMPORT: CommandForm = CommandForm {
     name: "import",
     about: "Brings the flattened AppArmor profile on standard input into this program's language, and gives an account of the rest",
-    examples: "Examples:\n  apparmor_parser -qQp /etc/apparmor.d/usr.bin.man | aa-trace import > man.profile\n  aa-trace import --for owner --define HOME=/home/*/ --account none < flat.txt > my.profile",
+    examples: "Examples:\n  apparmor_parser -qQp /etc/apparmor.d/usr.bin.man | aa-trace import > man.profile\n  \
+               aa-trace import --for owner --define HOME=/home/*/ --account none < flat.txt > my.profile",
     options: &[
         VERBOSE,
         PROFILE_OPTION,
@@ -330,7 +333,8 @@ pub(crate) const IMPORT: CommandForm = CommandForm {
 const NAMES: CommandForm = CommandForm {
     name: "names",
     about: "Judges each name of the list on standard input, and writes those that are allowed",
-    examples: "Examples:\n  find /srv -type f | aa-trace names r web.profile\n  find /srv -type d -printf '%p/\\0' -o -printf '%p\\0' | aa-trace names -0 w web.profile",
+    examples: "Examples:\n  find /srv -type f | aa-trace names r web.profile\n  \
+               find /srv -type d -printf '%p/\\0' -o -printf '%p\\0' | aa-trace names -0 w web.profile",
     options: &[
         OptionForm {
             name: "not-allowed",
