@@ -51,7 +51,7 @@ _aa_trace() {
     local -a quiet=('(-q --quiet)'{-q,--quiet}'[print no verdict]')
     local -a json=('--json[write each answer as a JSON object]')
     local -a each_rule=('--each-rule[one name for each rule or pair of reasons]')
-    local -a capacity=('--capacity=[room for so many entries]:number')
+    local -a capacity=('--capacity=[the number of entries that the tree has room for]:number')
     local -a choice=(
         '(--all)--profile=[the profile of a flattened text]:full name'
         '(--for)--owner=[rules for owners]:what becomes of them:(keep drop)'
@@ -101,7 +101,7 @@ _aa_trace() {
     run | steps) options=($verbose $capacity) ;;
     test) options=($verbose '--answers[print the answer of each command]' $capacity $json) ;;
     storm) options=('--sessions=[sessions]:number' '--opens=[opens of each session]:number' '--changes=[renames and profiles]:number') ;;
-    compile) options=($verbose '--depth=[look a byte up at so many defaults]:number') ;;
+    compile) options=($verbose '--depth=[the number of defaults at which a byte is looked up]:number') ;;
     check) options=($verbose) ;;
     help)
         ((CURRENT == 2)) && _aa_trace_commands

@@ -1,8 +1,9 @@
 //! `audit` as a command, over streams and texts in memory.
 ghost use Rattle.std.specs.Prelude.{◌<◌, length};
 
-use named_texts::{GivenText, GivenTexts};
+use named_texts::{GivenText, GivenTexts, LateText};
 use std::alloc::Global;
+use std::io::Read;
 use std::process::Abort;
 use std::test::Fail;
 use test_parts::Random;
@@ -39,8 +40,12 @@ const TEXTS: [GivenText<'static>; 3] = [
 ];
 
 fn audit_in_memory(alloc: Global, profiles: &[&str], format: Format, log: &[u8]) -> Ending {
-    let texts = GivenTexts { texts: &TEXTS };
     let mut input = log;
+    audit_of(alloc, profiles, format, &mut input)
+}
+
+fn audit_of<R: Read>(alloc: Global, profiles: &[&str], format: Format, input: &mut R) -> Ending {
+    let texts = GivenTexts { texts: &TEXTS };
     let mut answers = Vec::new(alloc);
     let mut faults = Vec::new(alloc);
     let status = audit(
@@ -48,7 +53,7 @@ fn audit_in_memory(alloc: Global, profiles: &[&str], format: Format, log: &[u8])
         &texts,
         profiles,
         format,
-        &mut input,
+        input,
         &mut answers,
         &mut faults,
     );
@@ -194,6 +199,22 @@ fn drawn_denials(rt: HostRuntime) -> Result<(), Fail> {
     Ok(())
 }
 
+// Two lines, of a profile that no text has and of one that a text has, and what is to be written about them.
+fn put_other(log: &mut Vec<u8>, lines: &mut Vec<u8>, alloc: Global, i: u8) -> Result<(), Fail> {
+    let number = 2 * usize::from(i) + 1;
+    let next = number + 1;
+    let denials = format!(in alloc;
+        "apparmor=\"DENIED\" profile=\"p{i}\" name=\"/x\" denied_mask=\"r\"\n\
+apparmor=\"DENIED\" profile=\"viewer\" name=\"/home/{i}/x\" denied_mask=\"r\"\n"
+    )?;
+    log.extend_from_slice(denials.as_bytes())?;
+    let reports = format!(in alloc;
+        "{number} p{i} /x r: no such profile\n{next} viewer /home/{i}/x r: allowed by rule 1: the profile has changed\n"
+    )?;
+    lines.extend_from_slice(reports.as_bytes())?;
+    Ok(())
+}
+
 #[test]
 fn profiles_of_containers_are_others(rt: HostRuntime) {
     let log: &[u8] = b"apparmor=\"DENIED\" profile=\"viewer\" name=\"/srv/a\" denied_mask=\"r\"
@@ -295,6 +316,27 @@ apparmor=\"DENIED\" profile=\"broken\" name=\"/x\" denied_mask=\"r\"
     );
     let missing = audit_in_memory(rt.alloc(), &["viewer", "missing"], Format::Text, log);
     expect_ending(&rt, &missing, Status::InputFailed, b"refused: input\n");
+}
+
+#[test]
+fn a_log_that_cannot_be_read(rt: HostRuntime) {
+    let texts = GivenTexts { texts: &TEXTS };
+    let mut log = LateText::of(&texts, "missing");
+    let ending = audit_of(rt.alloc(), &["viewer"], Format::Text, &mut log);
+    expect_ending(&rt, &ending, Status::InputFailed, b"refused: input\n");
+}
+
+// Many names of profiles, one of which is there.
+#[test]
+fn profiles_of_many_names(rt: HostRuntime) -> Result<(), Fail> {
+    let alloc = rt.alloc();
+    let mut log = Vec::new(alloc);
+    let mut lines = Vec::new(alloc);
+    for i in 0..200_u8 {
+        put_other(&mut log, &mut lines, alloc, i)?;
+    }
+    expect(&rt, alloc, &log, &lines);
+    Ok(())
 }
 
 #[test]

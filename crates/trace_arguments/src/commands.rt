@@ -298,7 +298,7 @@ pub(crate) const IMPORT: CommandForm = CommandForm {
     name: "import",
     about: "Brings the flattened AppArmor profile on standard input into this program's language, and gives an account of the rest",
     examples: "Examples:\n  apparmor_parser -qQp /etc/apparmor.d/usr.bin.man | aa-trace import > man.profile\n  \
-               aa-trace import --for owner --define HOME=/home/*/ --account none < flat.txt > my.profile",
+               aa-trace import --for others --define 'HOME=/home/*/' --override --account none < flat.txt > my.profile",
     options: &[
         VERBOSE,
         PROFILE_OPTION,
@@ -319,7 +319,7 @@ pub(crate) const IMPORT: CommandForm = CommandForm {
         OptionForm {
             name: "account",
             wants: Wants::OneText("changes|all|none"),
-            help: "Of which rules an account is given: of those that aren't exact, of all, or of none",
+            help: "What the account lists: what changes something, and sums (changes, the default); all that isn't kept as it is (all); nothing (none)",
         },
         OptionForm {
             name: "map",

@@ -8,7 +8,7 @@ use Rattle.trace_audit.specs.Answers.{answer_to}
 use Rattle.trace_audit.specs.Audit.{AreLines, line_in}
 use Rattle.trace_audit.specs.Groups.{Group}
 use Rattle.trace_audit.specs.Lookups.{TextValue}
-use Rattle.trace_audit.specs.inner.Lookedup.{IsLineOf}
+use Rattle.trace_audit.specs.inner.KnownProfiles.{IsLineOf}
 use Rattle.trace_report.specs.declared.format.Format.{Format}
 
 -- one more line, in front of those of the other groups

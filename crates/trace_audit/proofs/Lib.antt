@@ -10,7 +10,7 @@ mod Ends
 mod Parts
 mod Chosen
 mod SameObjects
-mod Known
+mod KnownKeys
 mod TextLaws
 mod NoLetters
 mod AllowedMore

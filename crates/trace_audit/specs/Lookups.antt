@@ -26,7 +26,7 @@ pub data Held : Type 0 where
   rules : List RuleValue → Held
   -- it can't be imported, for the fault with this number
   faulty : ℕ → Held
-  -- other profiles
+  -- no profile of this name, or several
   nothing : Held
 
 -- what a name leads to

@@ -2,5 +2,5 @@ pub mod GroupValues
 pub mod FoundValues
 pub mod AnswerValues
 pub mod Objects
-pub mod Lookedup
+pub mod KnownProfiles
 pub mod Audited

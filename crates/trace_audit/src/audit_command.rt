@@ -21,8 +21,8 @@ use trace_report::{Fault, Format, Status, fail, read_all, write_answer};
 /// text, imported for the subject of the denial. Equal denials are reported once, with their number. A fault is reported on
 /// `faults` instead.
 ///
-/// The time grows with the log, whose denials are found by their keys in a hash table; with the texts times the pairs of a profile
-/// and a subject that the log names, each of which is looked up once; and with the different denials times these pairs.
+/// The time grows with the log, n of whose denials take n log n comparisons, and with the texts times the pairs of a profile and a
+/// subject that the log names, each of which is looked up once.
 pub fn audit<T: NamedTexts, R: Read, A: Write, F: Write>(
     alloc: Global,
     texts: &T,

@@ -10,6 +10,7 @@ mod answer;
 mod asked;
 mod audit_command;
 mod groups;
+mod known;
 mod laws;
 mod lines;
 mod lookup;

@@ -35,6 +35,7 @@ pub(crate) enum Held {
     Rules(Profile),
     /// It can't be imported, for the fault with this number.
     Faulty(u8),
+    /// No profile of this name, or several.
     Nothing,
 }
 
@@ -61,9 +62,9 @@ fn subject_of(by_owner: bool) -> Subject
 fn held_by_fault(fault: &ImportFault<'_>) -> Held
     ensures { held_value result ≡ held_by (Err (import_fault_value fault.now)) }
 {
-    match fault.number() {
-        11 => Held::Nothing,
-        number => Held::Faulty(number),
+    match fault {
+        ImportFault::Which { .. } => Held::Nothing,
+        fault => Held::Faulty(fault.number()),
     }
 }
 

@@ -10,10 +10,13 @@
 //! writes how many answers there were, and how many of them aren't justified by what was changed.
 //! `aa-trace explain PERMS NAME` writes what `judge` does, and why; where the profile is refused, it shows the line of the fault.
 //! `aa-trace import` brings a profile of the flattened AppArmor text on standard input into this program's language, and gives an
-//! account of the rest on standard error.
-//! Faults go to standard error, and the exit status is 0 for answers, 1 for an answer that a test doesn't expect, 2 for a bad command
-//! line, 3 for a refused text, profile, image or stream, or an answer of a storm that isn't justified, and 4 where there is no
-//! memory, no thread or no seat.
+//! account of the rest on standard error. `aa-trace names PERMS PROFILE` writes those names of the list on standard input that a
+//! profile allows, and `aa-trace audit PROFILES..` what profiles say of the denials in the log there. `aa-trace any`, `all`, `diff`
+//! and `lint` answer questions about every name.
+//! Faults go to standard error, with `-v` in words, too. The exit status is 0 for answers; 1 for an answer that a test doesn't
+//! expect, for what a question about every name found, and with `-q` for a name that isn't allowed; 2 for a bad command line; 3 for
+//! a refused text, profile, image or stream, or an answer of a storm that isn't justified; and 4 where there is no memory, no thread
+//! or no seat.
 //!
 //! `trace_program` does all of this over any streams; here are the command line and the standard streams.
 #![tactic(auto)]

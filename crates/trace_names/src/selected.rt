@@ -78,6 +78,10 @@ fn put_name(
 fn put_verdict(text: &mut Vec<u8>, alloc: Global, verdict: Verdict) -> Result<(), NoMemory>
     ensures { OnOk result (text.new.items ≡ text.old.items ++ after_name verdict) }
 {
+    // A verdict with a number or with permissions is formatted, which takes as long as judging a name.
+    if verdict == Verdict::Allowed {
+        return put(text, b": allowed");
+    }
     match format!(in alloc; ": {verdict}") {
         Ok(told) => put(text, told.as_bytes()),
         Err(_) => Err(NoMemory),

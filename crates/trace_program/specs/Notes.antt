@@ -1,5 +1,5 @@
--- What `--verbose` adds: after a command that had something refused, notes on standard error.
-use Rattle.std.specs.Prelude.{◌≡◌, ◌⊎◌, ℕ, Bool, true, false, List, [], Option, Some, is_ok, ◌&&◌}
+-- What `--verbose` adds: after a command that had something refused, notes on standard error. `explain --flattened` has them always.
+use Rattle.std.specs.Prelude.{◌≡◌, ◌⊎◌, ℕ, Bool, true, false, List, [], Option, Some, is_ok, ◌&&◌, ◌||◌}
 use Rattle.std.specs.Io.KnownBytes.{Keeps, Appends}
 use Rattle.names.specs.Errors.{no_memory_text}
 use Rattle.fault_notes.specs.ImageNotes.{IsImageNotes}
@@ -9,8 +9,8 @@ use Rattle.fault_notes.specs.ProfileNotes.{profile_notes}
 use Rattle.import_profile.specs.declared.options.ImportOptions.{ImportOptions}
 use Rattle.script_notes.specs.ScriptNotes.{script_notes}
 use Rattle.script_notes.specs.declared.line.Script.TheVariants.{Run, Steps, Test}
-use Rattle.trace_arguments.specs.Values.{CommandValue, ImportValue, LineValue, check, compile, import_text, judge, match_name, run}
-use Rattle.trace_arguments.specs.Values.{steps, test}
+use Rattle.trace_arguments.specs.Values.{ChoiceValue, CommandValue, ImportValue, LineValue, check, compile, explain_flattened, import_text}
+use Rattle.trace_arguments.specs.Values.{judge, match_name, run, steps, test}
 use Rattle.trace_report.specs.ReadStreams.{ask_of}
 use Rattle.trace_program.specs.Import.{AsksFor}
 use Rattle.trace_report.specs.Output.{line}
@@ -23,6 +23,7 @@ use Rattle.trace_report.specs.declared.status.Status.TheVariants.{Done, FaultsFa
 abbrev pub may_have_notes : CommandValue → Bool
 may_have_notes (judge perms name format quiet) = is_ok (ask_of perms name)
 may_have_notes (match_name perms name format quiet) = is_ok (ask_of perms name)
+may_have_notes (explain_flattened perms name format choice) = is_ok (ask_of perms name)
 may_have_notes (compile depth) = true
 may_have_notes check = true
 may_have_notes (run capacity) = true
@@ -31,8 +32,13 @@ may_have_notes (steps capacity) = true
 may_have_notes (import_text asked) = true
 may_have_notes _ = false
 
+-- whether the command explains a text that it refuses, without being asked to
+abbrev pub explains : CommandValue → Bool
+explains (explain_flattened perms name format choice) = true
+explains _ = false
+
 abbrev pub has_notes : LineValue → Bool
-has_notes asked = asked.verbose && may_have_notes asked.command
+has_notes asked = (asked.verbose || explains asked.command) && may_have_notes asked.command
 
 -- the notes on an import that is refused, of each profile or of the one that is chosen
 abbrev pub AreNotesOn : Bool → ImportOptions → List ℕ → List ℕ → Type 0
@@ -42,6 +48,10 @@ AreNotesOn false options text notes = IsImportNotes options text notes
 abbrev pub AreImportNotes : ImportValue → List ℕ → List ℕ → Type 0
 AreImportNotes asked text notes =
     (options : ImportOptions) × AsksFor options asked.choice asked.strict × AreNotesOn asked.all options text notes
+
+-- the notes on a text of which the profile that is chosen can't be imported
+abbrev pub AreNotesOnOne : ChoiceValue → List ℕ → List ℕ → Type 0
+AreNotesOnOne choice text notes = (options : ImportOptions) × AsksFor options choice false × IsImportNotes options text notes
 
 -- the notes on what is refused
 abbrev pub AreRefusalNotes : CommandValue → List ℕ → List ℕ → Type 0
@@ -53,6 +63,7 @@ AreRefusalNotes (run capacity) text notes = notes ≡ script_notes Run text
 AreRefusalNotes (test capacity format answers) text notes = notes ≡ script_notes Test text
 AreRefusalNotes (steps capacity) text notes = notes ≡ script_notes Steps text
 AreRefusalNotes (import_text asked) text notes = AreImportNotes asked text notes
+AreRefusalNotes (explain_flattened perms name format choice) text notes = AreNotesOnOne choice text notes
 AreRefusalNotes _ text notes = notes ≡ []
 
 -- those on a script that is done, in which profiles may have been refused

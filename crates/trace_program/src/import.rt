@@ -4,7 +4,7 @@ ghost use Rattle.std.specs.Io.KnownBytes.{Keeps};
 ghost use Rattle.trace_arguments.specs.Values.{choice_value, define_value, import_value};
 ghost use Rattle.trace_report.specs.ReadStreams.{ask_of};
 ghost use Rattle.trace_program.specs.Import.{AsksFor, ExplainFlattenedEnds, ImportEnds, account_of, defined_pair, subject_of};
-ghost use Rattle.trace_program.specs.Notes.{AreImportNotes};
+ghost use Rattle.trace_program.specs.Notes.{AreImportNotes, AreNotesOnOne};
 ghost use Rattle.trace_report.specs.Streams.{IsTextOf, streams};
 
 use apparmor_rules::Subject;
@@ -153,4 +153,18 @@ pub(crate) fn notes_on_import(
     } else {
         import_notes(alloc, options, text)
     }
+}
+
+/// The notes on a text of which no profile could be explained.
+pub(crate) fn notes_on_flattened(
+    alloc: Global,
+    choice: &ImportChoice<'_>,
+    text: &[u8],
+) -> Result<Vec<u8>, NoMemory>
+    ensures { IfOk result (λ notes. AreNotesOnOne (choice_value choice.now) text.now notes.items) }
+{
+    let Ok(defines) = defines_of(alloc, &choice.defines) else {
+        return Err(NoMemory);
+    };
+    import_notes(alloc, options_of(choice, &defines, false), text)
 }

@@ -1,12 +1,14 @@
-//! `--verbose`: notes on what a command refused, on standard error after its own message.
+//! `--verbose`: notes on what a command refused, on standard error after its own message; those of `explain --flattened` are always
+//! written.
 ghost use Rattle.std.specs.Prelude.{◌≡◌, ◌⊎◌, IfOk};
 ghost use Rattle.std.specs.Io.KnownBytes.{Appends};
 ghost use Rattle.trace_arguments.specs.Values.{command_value, line_value};
-ghost use Rattle.trace_program.specs.Notes.{AreNotesOf, AreRefusalNotes, AreScriptNotes, NotesFollow, has_notes, may_have_notes};
+ghost use Rattle.trace_program.specs.Notes.{AreNotesOf, AreRefusalNotes, AreScriptNotes, NotesFollow, explains, has_notes};
+ghost use Rattle.trace_program.specs.Notes.{may_have_notes};
 ghost use Rattle.trace_report.specs.Streams.{AppendsFront};
 ghost use Rattle.trace_report.specs.declared.status.Status.TheVariants.{FaultsFailed};
 
-use crate::import::notes_on_import;
+use crate::import::{notes_on_flattened, notes_on_import};
 use fault_notes::{image_notes, profile_notes};
 use names::NoMemory;
 use script_notes::{Script, script_notes};
@@ -16,11 +18,18 @@ use trace_arguments::{Command, Line, NameCommand};
 use trace_commands::can_be_judged;
 use trace_report::{Status, fail, write_through};
 
-/// Whether a line asks for notes on what is on standard input.
+/// Whether there may be notes on what is on standard input: for `--verbose`, or as a part of what the command says.
 pub(crate) fn has_notes(line: &Line<'_>) -> bool
     ensures { result ≡ has_notes (line_value line.now) }
 {
-    line.verbose && may_have_notes(&line.command)
+    (line.verbose || explains(&line.command)) && may_have_notes(&line.command)
+}
+
+/// Whether a command explains a text that it refuses, without being asked to.
+fn explains(command: &Command<'_>) -> bool
+    ensures { result ≡ explains (command_value command.now) }
+{
+    matches!(command, Command::ExplainFlattened(_))
 }
 
 /// Whether there may be notes on a command: not if its bad arguments say that nothing is read.
@@ -32,6 +41,7 @@ fn may_have_notes(command: &Command<'_>) -> bool
             NameCommand::Explain => false,
             NameCommand::Judge | NameCommand::Match => can_be_judged(asked.perms, asked.name),
         },
+        Command::ExplainFlattened(asked) => can_be_judged(asked.perms, asked.name),
         Command::Compile { .. }
         | Command::Check
         | Command::Run { .. }
@@ -98,6 +108,7 @@ fn notes_on_refusal(alloc: Global, command: &Command<'_>, text: &[u8]) -> Result
         Command::Compile { .. } => profile_notes(alloc, text),
         Command::Check => image_notes(alloc, text),
         Command::Import(asked) => notes_on_import(alloc, asked, text),
+        Command::ExplainFlattened(asked) => notes_on_flattened(alloc, &asked.choice, text),
         _ => notes_on_script(alloc, command, text),
     }
 }

@@ -5,10 +5,10 @@ ghost use Rattle.trace_report.specs.Status.{status_code};
 /// How a run of the program ended.
 #[derive(Clone, Copy, Debug, PartialEq, Eq)]
 pub enum Status {
-    /// The answer was written.
+    /// It did what was asked. Its answer was written, unless it is the status alone.
     Done,
-    /// The answer was written, and isn't the one that a check expects: not all expectations of a test hold, or a question about all
-    /// names found something.
+    /// The same, and the answer is negative: an expectation of a test doesn't hold, or there is none; a question about all names found
+    /// something; or the status is the answer, and the name isn't allowed.
     Unmet,
     /// The command line can't be followed, and nothing was read.
     BadArguments,
@@ -16,7 +16,7 @@ pub enum Status {
     Refused,
     /// Reading failed.
     InputFailed,
-    /// The answer couldn't be written, or not all of it.
+    /// An answer, or a file that was asked for, couldn't be written, or not all of it.
     OutputFailed,
     /// The message of a fault couldn't be written, or not all of it.
     FaultsFailed,
