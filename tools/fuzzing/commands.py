@@ -99,7 +99,7 @@ def explain_flattened(line, asked, name, text, options):
     try:
         profile, _ = import_text(text, options)
     except ImportFault as fault:
-        return Outcome(3, err=refusal(text, fault))
+        return Outcome(3, err=refusal(text, fault) + shown.import_note(text, fault, options))
     return explained(line, profile, asked, name, lambda rule: (shown.line_of(text, rule.start), mark_of(text, rule.start)), {"file": None})
 
 
@@ -211,7 +211,7 @@ def import_profile(line, text, _):
             profile, account = import_text(text, options)
             out, mapped = canonical_text(profile), map_of(text, profile) if line.has("--map") else None
     except ImportFault as fault:
-        return Outcome(3, err=refusal(text, fault) + (shown.import_note(text, fault) if line.has(VERBOSE) else b""))
+        return Outcome(3, err=refusal(text, fault) + (shown.import_note(text, fault, options) if line.has(VERBOSE) else b""))
     if line.has("--map") and line.value("--map") != "map":
         return refused(NO_FILE)
     return Outcome(0, out, account, mapped)

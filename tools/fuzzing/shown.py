@@ -1,6 +1,7 @@
 """How faults are shown: as a sentence, a line of the text, and a caret (docs/RULES-PROGRAM.md, "Explaining" and "Notes")."""
 import re
 
+from flat_text import FlatReader, ImportFault
 from texts import Fault, Kind, read_profile
 
 MOST_COLUMNS = 72
@@ -37,7 +38,6 @@ IMAGE_SENTENCES = {
 }
 TOO_MANY_STATES = b"too many states: names lead to more than 16,384 sets of live places of the rules\n"
 IMPORT_SENTENCES = {
-    1: "the grammar of profiles doesn't allow what is here",
     2: "an include: " + FLATTEN,
     3: "not supported: {word}",
     4: "these are no permissions, or none that are allowed in this rule",
@@ -122,18 +122,56 @@ def image_note(fault):
     return IMAGE_SENTENCES[fault.number].format(fault.index).encode() + b"\n"
 
 
-def declared(text, fault):
+class EveryName:
+    """Has each name: no assignment counts."""
+
+    def __contains__(self, name):
+        return True
+
+
+def rule_ends(block):
+    """Where the rules and statements in a block end, after their commas."""
+    yield from (it.end for it in block.rules + block.statements)
+    for inner in block.blocks:
+        yield from rule_ends(inner)
+
+
+def ends_with_comma(text, at):
+    """Whether with a comma and a line's end at this place a rule would end there, and the text would be read past it."""
+    reader, stopped = FlatReader(text[:at] + b",\n" + text[at:], {}, lambda path, block: None, EveryName()), len(text) + 3
+    try:
+        reader.read()
+    except ImportFault as fault:
+        stopped = fault.at
+    return at + 1 in rule_ends(reader.all) and stopped > at + 2
+
+
+def grammar(text, at):
+    """The sentence about what the grammar doesn't allow."""
+    if at == len(text):
+        return "the text ends where more must follow"
+    return "a comma is missing before this" if ends_with_comma(text, at) else "the grammar of profiles doesn't allow what is here"
+
+
+def declared(text, fault, defines):
     """The sentence about an assignment that can't be."""
-    word = word_of(ASSIGNED.match(text, fault.at).group())
+    assigned = ASSIGNED.match(text, fault.at).group()
+    word, name = word_of(assigned), assigned[2:-1]
+    if name == b"profile_name":
+        return f"{word} is given by AppArmor: a text can't assign to it"
+    if any(name == given for given, _ in defines):
+        return f"{word} is given by --define; --override lets that replace what the text says"
     if fault.first is not None:
         return f"{word} is declared in line {line_of(text, fault.first)}"
-    return f"{word} isn't declared before it is added to, or is given by --define, or by AppArmor"
+    return f"{word} isn't declared before it is added to"
 
 
-def import_note(text, fault):
+def import_note(text, fault, options):
     """The lines about a fault of an import, below the first one."""
     if fault.number == 11:
         return b"the profiles there are, as listed: choose one by --profile NAME, or import each by --all\n"
+    if fault.number == 1:
+        return shown_place(text, fault.at, grammar(text, fault.at))
     if fault.number == 7:
-        return shown_place(text, fault.at, declared(text, fault))
+        return shown_place(text, fault.at, declared(text, fault, options.defines))
     return shown_place(text, fault.at, IMPORT_SENTENCES[fault.number].format(word=word_of(fault.shown or b"")))

@@ -21,7 +21,7 @@ pub fn import_all_notes(
     match import_all(alloc, options, text) {
         Ok(()) => Ok(Vec::new(alloc)),
         Err(ImportFailure::NoMemory) => Err(NoMemory),
-        Err(ImportFailure::At(fault)) => fault_notes(alloc, text, &fault),
+        Err(ImportFailure::At(fault)) => fault_notes(alloc, options, text, &fault),
     }
 }
 

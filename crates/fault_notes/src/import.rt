@@ -1,17 +1,17 @@
 //! Notes on an import.
-ghost use Rattle.std.specs.Prelude.{◌≡◌, ◌++◌, List, Option, IfOk, map, string_bytes};
+ghost use Rattle.std.specs.Prelude.{◌≡◌, List, Option, IfOk, string_bytes};
 ghost use Rattle.apparmor_text.specs.Parts.{ItemValue};
 ghost use Rattle.apparmor_text.specs.Texts.{ReadsItems};
 ghost use Rattle.apparmor_words.specs.Steps.{Stop};
-ghost use Rattle.fault_notes.specs.ImportNotes.{IsImportNotes, fault_notes, import_said, plainly_said, profiles_said};
-ghost use Rattle.rule_explain.specs.FaultWords.{named};
+ghost use Rattle.fault_notes.specs.ImportNotes.{AreFaultNotes, IsImportNotes, IsSaid, plainly_said, worded_said};
 ghost use Rattle.import_profile.specs.Told.{import_fault_value};
 
-use crate::sentence::{ended, sentence};
+use crate::grammar::grammar_said;
+use crate::sentence::{ended, sentence, word_said};
 use crate::variable::declared_said;
 use import_profile::{ImportFailure, ImportFault, ImportOptions, import_profile};
 use names::NoMemory;
-use rule_explain::{named, place_lines};
+use rule_explain::place_lines;
 use std::alloc::Global;
 
 /// What is said about a flattened text that `import` refuses: a sentence about its first fault, and where that is. Nothing about a
@@ -26,20 +26,21 @@ pub fn import_notes(
     match import_profile(alloc, options, text) {
         Ok(_) => Ok(Vec::new(alloc)),
         Err(ImportFailure::NoMemory) => Err(NoMemory),
-        Err(ImportFailure::At(fault)) => fault_notes(alloc, text, &fault),
+        Err(ImportFailure::At(fault)) => fault_notes(alloc, options, text, &fault),
     }
 }
 
 /// What is said about a fault.
 pub(crate) fn fault_notes(
     alloc: Global,
+    options: ImportOptions<'_>,
     text: &[u8],
     fault: &ImportFault<'_>,
 ) -> Result<Vec<u8>, NoMemory>
     ensures { (items : List ItemValue) (end : Option Stop) → ReadsItems text.now items end
-        → IfOk result (λ notes. notes.items ≡ fault_notes text.now items (import_fault_value fault.now)) }
+        → IfOk result (λ notes. AreFaultNotes options.entry text.now items (import_fault_value fault.now) notes.items) }
 {
-    let said = import_said(alloc, text, fault)?;
+    let said = import_said(alloc, options, text, fault)?;
     match fault.place() {
         Some(place) => {
             let lines = place_lines(alloc, 0, text, place, &said)?;
@@ -50,12 +51,30 @@ pub(crate) fn fault_notes(
 }
 
 /// A fault in words.
-fn import_said(alloc: Global, text: &[u8], fault: &ImportFault<'_>) -> Result<String, NoMemory>
+fn import_said(
+    alloc: Global,
+    options: ImportOptions<'_>,
+    text: &[u8],
+    fault: &ImportFault<'_>,
+) -> Result<String, NoMemory>
     ensures { (items : List ItemValue) (end : Option Stop) → ReadsItems text.now items end
-        → IfOk result (λ said. string_bytes said ≡ import_said text.now items (import_fault_value fault.now)) }
+        → IfOk result (λ said. IsSaid options.entry text.now items (import_fault_value fault.now) (string_bytes said)) }
 {
     match fault {
-        ImportFault::Declared { place } => declared_said(alloc, text, *place),
+        ImportFault::Syntax { place } => {
+            let said = grammar_said(alloc, text, *place)?;
+            sentence(alloc, said)
+        }
+        ImportFault::Declared { place } => declared_said(alloc, options, text, *place),
+        fault => worded_said(alloc, fault),
+    }
+}
+
+/// A fault that has a word, or of which always the same is said, in words.
+fn worded_said(alloc: Global, fault: &ImportFault<'_>) -> Result<String, NoMemory>
+    ensures { IfOk result (λ said. string_bytes said ≡ worded_said (import_fault_value fault.now)) }
+{
+    match fault {
         ImportFault::LeftOut { word, .. } => word_said(alloc, "not supported: ", word, ""),
         ImportFault::Undefined { name, .. } => word_said(
             alloc,
@@ -69,17 +88,15 @@ fn import_said(alloc: Global, text: &[u8], fault: &ImportFault<'_>) -> Result<St
             name,
             "} needs itself",
         ),
-        ImportFault::Which { names } => sentence(alloc, profiles_said(names)),
         fault => sentence(alloc, plainly_said(fault)),
     }
 }
 
-/// A fault that has neither a word nor names, in words.
+/// A fault of which always the same is said, in words.
 fn plainly_said(fault: &ImportFault<'_>) -> &'static str
     ensures { result.now ≡ plainly_said (import_fault_value fault.now) }
 {
     match fault {
-        ImportFault::Syntax { .. } => "the grammar of profiles doesn't allow what is here",
         ImportFault::Include { .. } => {
             "an include: flatten the text first: apparmor_parser -qQp FILE"
         }
@@ -99,28 +116,9 @@ fn plainly_said(fault: &ImportFault<'_>) -> &'static str
         ImportFault::TooMuch { .. } => {
             "there are more than 1,024 variables, or paths and lists of variables have more than 16 MB"
         }
+        ImportFault::Which { .. } => {
+            "the profiles there are, as listed: choose one by --profile NAME, or import each by --all"
+        }
         _ => "",
-    }
-}
-
-/// What is said about the profiles that there are.
-fn profiles_said(names: &[Vec<u8>]) -> &'static str
-    ensures { result.now ≡ profiles_said (map (λ name. name.items) names.now) }
-{
-    if names.is_empty() {
-        "the text has no profile"
-    } else {
-        "the profiles there are, as listed: choose one by --profile NAME, or import each by --all"
-    }
-}
-
-/// A word between two texts, as it is shown.
-fn word_said(alloc: Global, before: &str, word: &[u8], behind: &str) -> Result<String, NoMemory>
-    ensures { IfOk result (λ said. string_bytes said ≡ before.now ++ (named word.now ++ behind.now)) }
-{
-    let name = named(alloc, word)?;
-    match format!(in alloc; "{before}{name}{behind}") {
-        Ok(said) => Ok(said),
-        Err(_) => Err(NoMemory),
     }
 }

@@ -5,6 +5,7 @@
 #![tactic(auto)]
 
 mod all_imports;
+mod grammar;
 mod image;
 mod import;
 mod profile;
