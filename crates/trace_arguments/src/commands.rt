@@ -319,7 +319,7 @@ pub(crate) const IMPORT: CommandForm = CommandForm {
         OptionForm {
             name: "account",
             wants: Wants::OneText("changes|all|none"),
-            help: "What the account lists: what changes something, and sums (changes, the default); all that isn't kept as it is (all); nothing (none)",
+            help: "Lists what changes something, and sums (changes, the default), all that isn't kept as it is (all), or nothing (none)",
         },
         OptionForm {
             name: "map",
