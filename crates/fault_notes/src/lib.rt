@@ -1,7 +1,7 @@
 //! What is said about a refusal below its first line: of a profile's text, of an image, and of an import, in sentences and with the
 //! part of the text about the place.
 //!
-//! Each function gives the notes alone, from what the command has read. The definitions to believe are those in `specs/`.
+//! Each function returns only the notes, from what the command has read. The definitions to believe are those in `specs/`.
 #![tactic(auto)]
 
 mod all_imports;

@@ -1,4 +1,4 @@
-//! The same explanations as JSON values.
+//! What the rules of an imported profile say about a name, and where they come from, as JSON values.
 ghost use Rattle.std.specs.Prelude.{◌≡◌, ◌++◌, codes, false, IfOk, map, option_map, string_bytes};
 ghost use Rattle.answer_json.specs.Values.{denying_rule, number_or_null, number_value, reason_word};
 ghost use Rattle.import_origins.specs.Included.{marks_of};

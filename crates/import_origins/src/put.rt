@@ -15,7 +15,7 @@ pub(crate) fn put(lines: &mut Vec<u8>, bytes: &[u8]) -> Result<(), NoMemory>
     }
 }
 
-/// Adds bytes as they are shown: control bytes as `?`. If memory is refused, some of them were added.
+/// Adds bytes as they are shown: control bytes as `?`. If memory is refused, some of them may have been added.
 pub fn push_shown(lines: &mut Vec<u8>, bytes: &[u8]) -> Result<(), NoMemory>
     ensures { IfOk result (λ _. lines.new.items ≡ lines.old.items ++ map shown_byte bytes.now) }
 {

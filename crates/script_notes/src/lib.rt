@@ -1,7 +1,7 @@
 //! What is said about a script below the first line of its answers: where the text of a policy has a fault, what isn't understood of
 //! a line that is no command, and which line first has a control byte in a word.
 //!
-//! [`script_notes`] gives the notes alone, from the script that was read. The definitions to believe are those in `specs/`.
+//! [`script_notes`] returns only the notes, from the script that was read. The definitions to believe are those in `specs/`.
 #![tactic(auto)]
 
 mod control;

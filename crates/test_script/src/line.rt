@@ -16,7 +16,9 @@ use trace_script::{Blank, Command, LineKind, is_blank, is_comment, is_word, kind
 pub struct Question<'a> {
     /// The name of the profile whose rules are asked.
     pub profile: &'a [u8],
+    /// The name of the file.
     pub name: &'a [u8],
+    /// The permissions that are asked for, perhaps none.
     pub ask: Perms,
 }
 

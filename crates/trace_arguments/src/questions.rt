@@ -16,9 +16,13 @@ pub enum NameCommand {
 /// A question about one name.
 #[derive(Clone, Copy, Debug, PartialEq, Eq)]
 pub struct NameQuestion<'a> {
+    /// The command that asks.
     pub command: NameCommand,
+    /// The letters of the permissions, as they were given.
     pub perms: &'a str,
+    /// The name of the file.
     pub name: &'a str,
+    /// How the answer is written.
     pub format: Format,
     /// Whether the answer is the exit status alone; never with `explain`.
     pub quiet: bool,
@@ -30,6 +34,7 @@ pub struct FlattenedQuestion<'a> {
     pub perms: &'a str,
     pub name: &'a str,
     pub format: Format,
+    /// Which profile of the text is imported, and how.
     pub choice: ImportChoice<'a>,
 }
 

@@ -23,7 +23,7 @@ use std::alloc::Global;
 pub(crate) enum Answer<'a> {
     /// No text has the profile.
     NoProfile,
-    /// Nor can this file be imported.
+    /// No text has the profile, and this file can't be imported.
     NotImported(Refusal<'a>),
     /// Nothing is asked but `x`.
     NotJudged,
