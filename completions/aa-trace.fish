@@ -123,7 +123,7 @@ complete -c aa-trace -n '__aa_trace_offers import -- --map --all' -r -F -l map -
 complete -c aa-trace -n '__aa_trace_offers names -- -n --not-allowed' -s n -l not-allowed -d 'Print the names that are not allowed'
 complete -c aa-trace -n '__aa_trace_offers names -- -0 --null' -s 0 -l null -d 'Names end with byte 0'
 complete -c aa-trace -n '__aa_trace_offers names -- --verdict' -l verdict -d 'Print each name with its verdict'
-complete -c aa-trace -n '__aa_trace_offers run test steps -- --capacity' -x -l capacity -d 'The number of entries that the tree has room for'
+complete -c aa-trace -n '__aa_trace_offers run test steps -- --capacity' -x -l capacity -d 'How many entries the tree has room for'
 complete -c aa-trace -n '__aa_trace_offers test -- --answers' -l answers -d 'Print the answer of each command'
 complete -c aa-trace -n '__aa_trace_offers compile -- --depth' -x -l depth -d 'The number of defaults at which a byte is looked up'
 complete -c aa-trace -n '__aa_trace_offers storm -- --sessions' -x -l sessions -d 'Sessions'

@@ -51,7 +51,7 @@ _aa_trace() {
     local -a quiet=('(-q --quiet)'{-q,--quiet}'[print no verdict]')
     local -a json=('--json[write each answer as a JSON object]')
     local -a each_rule=('--each-rule[one name for each rule or pair of reasons]')
-    local -a capacity=('--capacity=[the number of entries that the tree has room for]:number')
+    local -a capacity=('--capacity=[how many entries the tree has room for]:number')
     local -a choice=(
         '(--all)--profile=[the profile of a flattened text]:full name'
         '(--for)--owner=[rules for owners]:what becomes of them:(keep drop)'
