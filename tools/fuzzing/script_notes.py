@@ -2,7 +2,7 @@
 import re
 
 import shown
-from scripts import CONTROL, plain_words, read_change, read_lines
+from scripts import CONTROL, plain_words, read_lines
 from texts import Fault, are_letters, read_profile
 
 SESSION = re.compile(rb"[1-9]")
@@ -10,7 +10,8 @@ MOST_NUMBER = 2**64 - 1
 COMMON = ["policy", "drop PROFILE", "mkdir PATH", "create PATH", "symlink TEXT PATH", "link OLD NEW", "unlink PATH", "rmdir PATH",
           "rename OLD NEW", "open PROFILE PATH PERMS"]
 EVENTS = ["begin SESSION PROFILE PATH PERMS", "policy-read SESSION", "count SESSION", "cell SESSION NUMBER", "check SESSION", "go SESSION",
-          "keep CHANGE..", "set NUMBER", "close"]
+          "set NUMBER", "close"]
+CHANGES = ["mkdir PATH", "create PATH", "symlink TEXT PATH", "link OLD NEW", "unlink PATH", "rmdir PATH", "rename OLD NEW"]
 NO_END = "line %d: the policy that begins here has no end, which is a line with a single dot\n"
 WITH_CR = "line %d: a CR ends or is in a word, to which it belongs\n"
 WITH_CONTROL = "line %d: a control byte is in a word, to which it belongs\n"
@@ -21,32 +22,52 @@ def forms_of(lines):
 
 
 FORMS = {"run": forms_of([*COMMON, "judged-link PROFILE OLD NEW"]), "steps": forms_of([*COMMON, *EVENTS])}
+CHANGE_FORMS = forms_of(CHANGES)
 
 
-def fault_of(words, forms):
-    """Why words are no command, or None."""
-    form = forms.get(words[0])
-    if form is None:
-        return "no command begins with this word"
+def fault_of(words, command):
+    """The number of the word that isn't understood, from 0, and why; None for a command."""
+    if command == "steps" and words[0] == b"keep":
+        return fault_after_keep(words[1:])
+    form = FORMS[command].get(words[0])
+    return fault_in(words, form) if form else (0, "no command begins with this word")
+
+
+def fault_after_keep(words):
+    if not words:
+        return 0, "too few words: keep CHANGE.."
+    form = CHANGE_FORMS.get(words[0])
+    fault = fault_in(words, form) if form else (0, "no change of the tree begins with this word")
+    return fault and (fault[0] + 1, fault[1])
+
+
+def fault_in(words, form):
     parts = form.split(" ")
-    why = "too few words" if len(words) < len(parts) else odd_words(words, parts)
-    return why and f"{why}: {form}"
-
-
-def odd_words(words, parts):
-    if parts[-1] == "CHANGE..":
-        return None if read_change(words[1:]) else "a word isn't what it should be"
+    if len(words) < len(parts):
+        return 0, f"too few words: {form}"
     if len(words) > len(parts):
-        return "too many words"
-    if parts[-1] == "PERMS" and not are_letters(words[-1]):
-        return "the last word is no permissions"
-    return None if all(map(is_right, parts, words)) else "a word isn't what it should be"
+        return len(parts), f"too many words: {form}"
+    for number, (part, word) in enumerate(zip(parts, words)):
+        if part in TESTS and not TESTS[part](word):
+            return number, f"{WRONG[part]}: {form}"
+    return None
 
 
-def is_right(part, word):
-    if part == "SESSION":
-        return SESSION.fullmatch(word) is not None
-    return part != "NUMBER" or re.fullmatch(rb"[0-9]+", word) is not None and int(word) <= MOST_NUMBER
+def is_session(word):
+    return SESSION.fullmatch(word) is not None
+
+
+def is_number(word):
+    return re.fullmatch(rb"[0-9]+", word) is not None and int(word) <= MOST_NUMBER
+
+
+TESTS = {"SESSION": is_session, "NUMBER": is_number, "PERMS": are_letters}
+WRONG = {"SESSION": "the second word is no session, which is a digit from 1 to 9", "NUMBER": "the last word is no number below 2^64",
+         "PERMS": "the last word is no permissions"}
+
+
+def place_of_word(line, number):
+    return [word.start() for word in re.finditer(rb"[^ \t]+", line)][number]
 
 
 def note_on_policy(line):
@@ -70,8 +91,8 @@ def notes(command, text):
         if line.body is not None:
             found.append(note_on_policy(line))
             continue
-        why = fault_of(line.words, FORMS[command])
-        if why:
-            start = len(line.text) - len(line.text.lstrip(b" \t"))
-            return b"".join([*found, shown.shown_place(line.text, start, why, line.number)])
+        fault = fault_of(line.words, command)
+        if fault:
+            place = place_of_word(line.text, fault[0])
+            return b"".join([*found, shown.shown_place(line.text, place, fault[1], line.number)])
     return b"".join(found)

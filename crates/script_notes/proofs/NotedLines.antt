@@ -1,5 +1,5 @@
 -- The notes on a line, and those on the lines after it.
-use Rattle.std.proofs.Common.{◌≡◌, ℕ, ◌+◌, Bool, ◌||◌, List, [], ◌∷◌, ◌++◌, Option, Some, append_assoc, ap, ◌∙◌}
+use Rattle.std.proofs.Common.{◌≡◌, ℕ, ◌+◌, Bool, ◌||◌, List, ◌∷◌, ◌++◌, Option, Some, append_assoc, ap, ◌∙◌}
 use Rattle.std.specs.Option.{is_some}
 use Rattle.script_notes.specs.ScriptNotes.{control_in, control_notes, line_notes, notes_from, section_after}
 use Rattle.script_notes.specs.declared.line.Script.{Script}

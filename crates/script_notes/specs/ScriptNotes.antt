@@ -2,20 +2,19 @@
 use Rattle.std.specs.Prelude.{ℕ, ◌+◌, Bool, true, false, List, [], ◌∷◌, ◌++◌, ◌||◌, if◌then◌else◌, codes, decimal, Option, Some, None}
 use Rattle.std.specs.Prelude.{Result, Ok, Err}
 use Rattle.std.specs.Option.{is_some}
-use Rattle.std.specs.List.{prefix_len}
 use Rattle.rule_explain.specs.FaultLines.{fault_lines_from}
 use Rattle.rule_explain.specs.Windows.{place_lines}
 use Rattle.rule_profile.specs.Profile.{ProfileValue}
 use Rattle.rule_reader.specs.declared.fault.ReadFault.{ReadFault}
 use Rattle.rule_reader.specs.ReadText.{outcome_of}
 use Rattle.script_notes.specs.ControlBytes.{control_said, first_control}
-use Rattle.script_notes.specs.Forms.{why}
+use Rattle.script_notes.specs.Forms.{why, word_place}
 use Rattle.script_notes.specs.Lines.{ended}
 use Rattle.script_notes.specs.ScriptLines.{says_in}
 use Rattle.script_notes.specs.declared.line.Script.{Script}
 use Rattle.script_notes.specs.declared.line.Says.{Says}
 use Rattle.script_notes.specs.declared.line.Says.TheVariants.{Nothing, OpensPolicy, Command, NoCommand}
-use Rattle.trace_script.specs.Script.{Section, outside, within, is_blank, is_end, line_feed, lines_of}
+use Rattle.trace_script.specs.Script.{Section, outside, within, is_end, line_feed, lines_of}
 
 -- ---- one line
 
@@ -39,9 +38,10 @@ notes_of_outcome start text (Err f) = ended (fault_lines_from start text f)
 abbrev pub policy_notes : ℕ → List ℕ → List ℕ
 policy_notes start text = notes_of_outcome start text (outcome_of text)
 
--- of a line that is no command: the line, and what of it isn't understood
+-- of a line that is no command: the line, with a caret below the word that isn't understood, and why it isn't
 abbrev pub no_command_notes : Script → ℕ → List ℕ → List ℕ
-no_command_notes script before line = ended (place_lines before line (prefix_len is_blank line) (why script line))
+no_command_notes script before line =
+    ended (place_lines before line (word_place (why script line).word line) (why script line).said)
 
 abbrev pub notes_by : Script → Says → ℕ → List ℕ → List ℕ
 notes_by script NoCommand before line = no_command_notes script before line

@@ -1,5 +1,5 @@
-//! What is said about a script below the first line of its answers: where the text of a policy has a fault, what isn't understood of
-//! a line that is no command, and which line first has a control byte in a word.
+//! What is said about a script below the first line of its answers: where the text of a policy has a fault, which word isn't
+//! understood of a line that is no command, and why, and which line first has a control byte in a word.
 //!
 //! [`script_notes`] returns only the notes, from the script that was read. The definitions to believe are those in `specs/`.
 #![tactic(auto)]
@@ -7,7 +7,9 @@
 mod control;
 mod forms;
 mod line;
+mod misfit;
 mod notes;
+mod place;
 #[cfg(test)]
 mod tests;
 mod text;

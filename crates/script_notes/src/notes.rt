@@ -6,18 +6,18 @@ ghost use Rattle.script_notes.specs.ScriptNotes.{policy_notes};
 ghost use Rattle.script_notes.specs.ScriptNotes.{script_notes, section_after, section_by};
 ghost use Rattle.script_notes.specs.ScriptLines.{says_in};
 ghost use Rattle.trace_script.specs.Engine.{section_value};
-ghost use Rattle.std.specs.List.{prefix_len};
-ghost use Rattle.trace_script.specs.Script.{is_blank, line_feed, lines_of};
+ghost use Rattle.trace_script.specs.Script.{line_feed, lines_of};
 
 use crate::control::{control_said, first_control};
-use crate::forms::why;
 use crate::line::{Says, Script, says_in};
+use crate::misfit::why;
+use crate::place::word_place;
 use crate::text::{numbered, put_ended};
-use names::{NoMemory, Separator, skip, split_at};
+use names::{NoMemory, Separator, split_at};
 use rule_explain::{fault_lines_from, place_lines};
 use rule_reader::{ReadFault, read};
 use std::alloc::Global;
-use trace_script::{Blank, Section};
+use trace_script::Section;
 
 /// What is said about a script in this language. For each policy whose text has a fault: where that is, and which. For a line that
 /// is no command: what of it isn't understood. For the first line that has a control byte in a word, up to where the script stops:
@@ -183,16 +183,10 @@ fn note_no_command(
 ) -> Result<(), NoMemory>
     ensures { IfOk result (λ _. notes.new.items ≡ notes.old.items ++ no_command_notes script before line.now) }
 {
-    let said = why(alloc, script, line)?;
-    let lines = place_lines(alloc, before, line, first_word_place(line), &said)?;
+    let misfit = why(alloc, script, line)?;
+    let place = word_place(line, misfit.word);
+    let lines = place_lines(alloc, before, line, place, &misfit.said)?;
     put_ended(notes, &lines)
-}
-
-/// How many blanks are before the first word of a line.
-fn first_word_place(line: &[u8]) -> usize
-    ensures { result ≡ prefix_len is_blank line.now }
-{
-    line.len() - skip::<Blank>(line).len()
 }
 
 /// Notes where the text of a policy that the line of this number opens has a fault, and which.

@@ -1,5 +1,5 @@
 -- What was noted, and what is noted of the lines that are left, are the notes; and lines and bytes that are left can be counted.
-use Rattle.std.proofs.Common.{◌≡◌, ◌≤◌, ◌+◌, ◌++◌, false, length, Some}
+use Rattle.std.proofs.Common.{◌≡◌, ◌≤◌, ◌+◌, ◌++◌, length, Some}
 use Rattle.trace_script.specs.Engine.{section_value}
 use Rattle.trace_script.specs.Script.{lines_of}
 use Rattle.script_notes.specs.ScriptNotes.{notes_from, script_notes}
