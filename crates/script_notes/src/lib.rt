@@ -6,6 +6,7 @@
 
 mod control;
 mod forms;
+mod laws;
 mod line;
 mod misfit;
 mod notes;
@@ -14,5 +15,6 @@ mod place;
 mod tests;
 mod text;
 
+pub use laws::carets_are_below_words;
 pub use line::Script;
 pub use notes::script_notes;

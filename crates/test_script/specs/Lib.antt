@@ -1,3 +1,4 @@
 pub mod TestScript
 pub mod LineValues
 pub mod inner
+pub mod laws

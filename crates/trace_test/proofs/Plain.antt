@@ -1,13 +1,11 @@
 -- Scripts without quotes, questions and expectations.
-use Rattle.std.proofs.Common.{◌≡◌, ◌⊎◌, ℕ, ◌+◌, ◌<◌, ◌≤◌, ◌==◌, ◌||◌, Bool, true, false, cond, not, List, [], ◌∷◌, ◌++◌, length, map}
-use Rattle.std.proofs.Common.{drop, get_or, Option, Some, None, refl, sym, ap, ◌∙◌, arith, suc, zero, inl, inr, length-drop}
-use Rattle.std.proofs.Common.{append-nil, subst}
+use Rattle.std.proofs.Common.{◌≡◌, ◌⊎◌, ℕ, ◌+◌, ◌<◌, ◌≤◌, ◌==◌, ◌||◌, Bool, true, false, cond, List, [], ◌∷◌, ◌++◌, length, map}
+use Rattle.std.proofs.Common.{Option, None, refl, sym, ap, ◌∙◌, arith, suc, inl, inr, append-nil, subst}
 use Rattle.std.specs.Prelude.{All, bytes_eq, codes}
-use Rattle.std.specs.List.{before_first, position_or_len, prefix_len}
+use Rattle.std.specs.List.{before_first}
 use Rattle.std.proofs.lemmas.Bool.{cases_lt, ne_eqb}
-use Rattle.std.proofs.lemmas.List.{drop_all, length-take}
-use Rattle.std.proofs.lemmas.List.Sums.{prefix_len-le-length}
-use Rattle.std.proofs.lemmas.List.Elements.{All-drop, All-tail}
+use Rattle.std.proofs.lemmas.List.{drop_all}
+use Rattle.std.proofs.lemmas.List.Elements.{All-tail}
 use Rattle.glob_automaton.specs.Automata.{StateLimit}
 use Rattle.mediation.specs.History.{History}
 use Rattle.trace_report.specs.declared.format.Format.{Format}
@@ -20,82 +18,15 @@ use Rattle.trace_script.specs.Script.{is_comment, is_end, kind_of_words, line_fe
 use Rattle.trace_script.specs.Script.{script_by, script_of, within, words_of}
 use Rattle.trace_script.specs.laws.FollowedScripts.{text_of_lines-append}
 use Rattle.trace_script.specs.laws.Grammars.{script_kind, script_within}
-use Rattle.trace_script.specs.laws.LineWords.{step_at_end, step_at_word}
 use Rattle.trace_test.specs.declared.options.TestOptions.{TestOptions}
 use Rattle.trace_test.specs.Expectations.{Event, answer_of, Expectation, Last, nothing, answer, events, events_to, expectations_in}
 use Rattle.trace_test.specs.Expectations.{last_of, refuses_policy, unexpected}
 use Rattle.trace_test.specs.Laws.{IsPlain, IsPlainLine, IsTaken, asked_of}
 use Rattle.trace_test.specs.TestOutput.{count_line, count_text, lines_of_events, test_output, tested_output, tested_status}
 use Rattle.test_script.specs.TestScript.{TestCommand, ask, run, judge, explain, behind_first, expect_kind, first_word, from_word}
-use Rattle.test_script.specs.TestScript.{is_passed}
-use Rattle.test_script.specs.TestScript.{question_kind, quote, quoted_kind, quoted_words, run_kind, test_grammar, test_kind, test_script}
-use Rattle.test_script.specs.TestScript.{with_word, words_kind}
-use Rattle.test_script.proofs.WordReads.{at_word, first_bare, skips_blanks, word_is_some}
-
-abbrev HasNoQuote : List ℕ → Type 0
-HasNoQuote line = All (λ b. b ≡ quote → ⊥) line
-
-first_is_none : (line : List ℕ) → 0 < length line → HasNoQuote line → get_or line 0 0 ≡ quote → ⊥
-first_is_none [] some free = absurd (omega arith)
-first_is_none (b ∷ line) some free = free 0 0 (omega arith)
-
--- without quotes, words are words: the first one and those after it
-module _ (line : List ℕ) (free : HasNoQuote line) where
-  abbrev rest : List ℕ
-  rest = from_word line
-
-  abbrev behind : List ℕ
-  behind = drop (position_or_len is_blank rest) rest
-
-  no_quote_behind : HasNoQuote behind
-  no_quote_behind = All-drop (λ b. b ≡ quote → ⊥) (position_or_len is_blank rest) rest
-      (All-drop (λ b. b ≡ quote → ⊥) (prefix_len is_blank line) line free)
-
-  is_shorter : 0 < length rest → length behind < length line
-  is_shorter h =
-      omega (
-        arith,
-        word_is_some rest h (at_word line),
-        length-drop (position_or_len is_blank rest) rest,
-        length-drop
-            (prefix_len is_blank line) line,
-      )
-
-  first_of : 0 < length rest → (quoted_words line ≡ with_word (before_first is_blank rest) (quoted_words behind))
-      × (words_of line ≡ before_first is_blank rest ∷ words_of behind)
-  first_of h =
-      let no_quote = All-drop (λ b. b ≡ quote → ⊥) (prefix_len is_blank line) line free in
-      let some = word_is_some rest h (at_word line) in
-      let long : 0 < length (before_first is_blank rest) =
-      omega (arith, some, length-take (position_or_len is_blank rest) rest, prefix_len-le-length (λ b. not (is_blank b)) rest) in (
-        skips_blanks line ∙ first_bare rest h (at_word line) (first_is_none rest h no_quote),
-        step_at_word line (before_first is_blank rest)
-            behind refl refl long,
-      )
-
-  none_of : length rest ≤ 0 → (quoted_words line ≡ Some []) × (words_of line ≡ [])
-  none_of h =
-      let gone : rest ≡ [] = drop_all 0 rest h in
-      let empty : length (before_first is_blank rest) ≡ 0 = ap (λ r. length (before_first is_blank r)) gone in
-      (skips_blanks line ∙ ap quoted_words gone, (step_at_end line (before_first is_blank rest) behind refl refl empty).0)
-
-plain_words : (most : ℕ) (line : List ℕ) → length line ≤ most → HasNoQuote line → quoted_words line ≡ Some (words_of line)
-plain_words zero line short free =
-    let none = none_of line free (omega (arith, length-drop (prefix_len is_blank line) line)) in
-    none.0 ∙ ap Some (sym none.1)
-plain_words (suc most) line short free = by (plain_words most) (cases_lt 0 (length (from_word line)))
-  where
-    by : ((line : List ℕ) → length line ≤ most → HasNoQuote line → quoted_words line ≡ Some (words_of line)) →
-        (0 < length (from_word line)) ⊎ (length (from_word line) ≤ 0)
-        → quoted_words line ≡ Some (words_of line)
-    by later (inl h) =
-        let first = first_of line free h in
-        let shorter = is_shorter line free h in
-        first.0 ∙ ap (with_word (before_first is_blank (from_word line)))
-        (later (behind line free) (omega arith) (no_quote_behind line free)) ∙ ap Some (sym first.1)
-    by later (inr h) =
-        let none = none_of line free h in
-        none.0 ∙ ap Some (sym none.1)
+use Rattle.test_script.specs.TestScript.{is_passed, question_kind, quoted_kind, quoted_words, run_kind, test_grammar, test_kind}
+use Rattle.test_script.specs.TestScript.{test_script, words_kind}
+use Rattle.test_script.specs.laws.PlainWords.{after, first_is_some, first_of, none_of, plain_words}
 
 -- words of which the first asks nothing
 plain_kind_of : (number : ℕ) (word : List ℕ) (more : List (List ℕ)) → bytes_eq (codes "judge") word ≡ false →
@@ -124,18 +55,9 @@ plain_kind number line plain = by (cases_lt 0 (length (from_word line)))
         ≡ run_kind number (line_kind (words_of line))
     by (inl h) =
         let first = first_of line plain.no_quote h in
-        let later = words_of (behind line plain.no_quote) in
-        let some = word_is_some (from_word line) h (at_word line) in
+        let later = words_of (after line plain.no_quote) in
         let long : (length word == 0) ≡ false =
-        ne_eqb (length word) 0
-        (λ e. omega (
-          arith,
-          e,
-          some,
-          length-take (position_or_len is_blank (from_word line)) (from_word line),
-          prefix_len-le-length
-              (λ b. not (is_blank b)) (from_word line),
-        )) in
+        ne_eqb (length word) 0 (λ e. omega (arith, e, first_is_some line plain.no_quote h)) in
         asked
         ∙ ap (λ b. cond (b || is_comment word) ignored (words_kind number (words_of line))) long
         ∙ ap (λ words. cond (is_comment word) ignored (words_kind number words)) first.1
