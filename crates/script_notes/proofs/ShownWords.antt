@@ -157,7 +157,8 @@ test_word number line e = elim (cases_lt 0 (length front)) [ inl some ↦ has so
 
     has_none : length front ≤ 0 → ⊥
     has_none none =
-        let read = cond (bytes_eq (codes "expect") front) (expect_kind number (behind_first line)) (quoted_kind number (quoted_words line)) in
+        let read =
+        cond (bytes_eq (codes "expect") front) (expect_kind number (behind_first line)) (quoted_kind number (quoted_words line)) in
         let passed : (length front == 0) ≡ true = eq-eqb (length front) 0 (omega arith) in
         nothing≢no_command (sym (ap (λ empty. says (cond (empty || is_comment front) ignored read)) passed) ∙ e)
 
