@@ -1,3 +1,7 @@
 mod FirstLine
 mod NotedLines
 mod ShownWords
+mod SaidForms
+mod SaidCommands
+mod SaidNone
+mod Said

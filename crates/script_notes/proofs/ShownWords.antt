@@ -1,5 +1,5 @@
 -- The word that isn't understood is one of the line's, and is shown where it is.
-use Rattle.std.proofs.Common.{◌≡◌, ◌⊎◌, ℕ, zero, suc, ◌+◌, ◌-◌, ◌<◌, ◌≤◌, ◌==◌, ◌||◌, Bool, true, false, cond, ◌&&◌, not, nat_lt}
+use Rattle.std.proofs.Common.{◌≡◌, ◌⊎◌, ℕ, zero, suc, ◌+◌, ◌-◌, ◌<◌, ◌≤◌, ◌==◌, ◌||◌, Bool, true, false, cond, ◌&&◌, nat_lt}
 use Rattle.std.proofs.Common.{List, [], ◌∷◌, ◌++◌, All, length, drop, bytes_eq, codes, Option, Some, None, slice_get, refl, sym, ap, ◌∙◌}
 use Rattle.std.proofs.Common.{arith, inl, inr, length-drop}
 use Rattle.std.specs.List.{before_first, position_or_len, prefix_len}
@@ -7,10 +7,10 @@ use Rattle.std.proofs.lemmas.Bool.{cases_lt, eq-eqb, false≢true, ltb-true, ne_
 use Rattle.std.proofs.lemmas.List.{drop_all, drop-drop}
 use Rattle.std.proofs.lemmas.List.Elements.{All-from_get_or}
 use Rattle.std.proofs.lemmas.List.Folds.{list_any_at}
-use Rattle.script_notes.specs.Forms.{Misfit, misfit_at, misfit_of, is_open, asks_perms, is_no_perms, odd_word, odd_last, is_no_session}
+use Rattle.script_notes.specs.Forms.{Misfit, misfit_at, misfit_of, asks_perms, is_no_perms, odd_word, odd_last, is_no_session}
 use Rattle.script_notes.specs.Forms.{is_session_word, why_form, why_words, form_of, next_word, why_keep, change_forms, no_change}
 use Rattle.script_notes.specs.Forms.{why_step, why_step_by, no_command, step_forms, run_forms, test_forms, has_quote}
-use Rattle.script_notes.specs.Forms.{why_test, why_quoted, why, after_words, after_word, word_place}
+use Rattle.script_notes.specs.Forms.{found_by_blanks, why_test, why_quoted, why, after_words, after_word, word_place}
 use Rattle.script_notes.specs.declared.line.Script.{Script}
 use Rattle.script_notes.specs.declared.line.Script.TheVariants.{Run, Steps, Test}
 use Rattle.script_notes.specs.declared.line.Says.TheVariants.{Nothing, NoCommand}
@@ -25,10 +25,6 @@ use Rattle.trace_steps.specs.StepScript.{step_kind}
 word_by : (n : ℕ) (b : Bool) (x y : Misfit) → (b ≡ true → x.word < n) → (b ≡ false → y.word < n) → (cond b x y).word < n
 word_by n true x y h k = h refl
 word_by n false x y h k = k refl
-
-and_left : (a b : Bool) → (a && b) ≡ true → a ≡ true
-and_left true b e = refl
-and_left false b e = e
 
 and_right : (a b : Bool) → (a && b) ≡ true → b ≡ true
 and_right true b e = e
@@ -56,20 +52,17 @@ module _ (form : List ℕ) (of_form words : List (List ℕ)) (some : 0 < length 
       (λ e. no_session_within words (and_right (is_session_word (slice_get of_form 1)) (is_no_session (slice_get words 1)) e))
       (λ e. last_within)
 
-  long_within : (cond (nat_lt (length of_form) (length words) && not (is_open form))
-      (misfit_at (length of_form) (codes "too many words: " ++ form)) (odd_word form of_form words)).word < length words
+  long_within : (cond (nat_lt (length of_form) (length words)) (misfit_at (length of_form) (codes "too many words: " ++ form))
+      (odd_word form of_form words)).word < length words
   long_within =
-      word_by (length words) (nat_lt (length of_form) (length words) && not (is_open form))
-      (misfit_at (length of_form) (codes "too many words: " ++ form)) (odd_word form of_form words)
-      (λ e. ltb-true (length of_form) (length words) (and_left (nat_lt (length of_form) (length words)) (not (is_open form)) e))
-      (λ e. odd_within)
+      word_by (length words) (nat_lt (length of_form) (length words)) (misfit_at (length of_form) (codes "too many words: " ++ form))
+      (odd_word form of_form words) (λ e. ltb-true (length of_form) (length words) e) (λ e. odd_within)
 
   misfit_within : (misfit_of form of_form words).word < length words
   misfit_within =
       word_by (length words) (nat_lt (length words) (length of_form)) (misfit_at 0 (codes "too few words: " ++ form))
-      (cond (nat_lt (length of_form) (length words) && not (is_open form))
-      (misfit_at (length of_form) (codes "too many words: " ++ form)) (odd_word form of_form words))
-      (λ e. some) (λ e. long_within)
+      (cond (nat_lt (length of_form) (length words)) (misfit_at (length of_form) (codes "too many words: " ++ form))
+      (odd_word form of_form words)) (λ e. some) (λ e. long_within)
 
 form_within : (unknown : List ℕ) (form : Option (List ℕ)) (words : List (List ℕ)) → 0 < length words →
     (why_form unknown form words).word < length words
@@ -109,8 +102,9 @@ no_quotes : (line : List ℕ) → has_quote line ≡ false → All (λ b. b ≡ 
 no_quotes line none = All-from_get_or (λ b. b ≡ quote → ⊥) line 0 λ i within e.
     false≢true (sym none ∙ list_any_at (λ b. b == quote) line i 0 within (ap (λ b. b == quote) e))
 
-test_within : (line : List ℕ) → 0 < length (words_of line) → (why_test line).word < length (words_of line)
-test_within line some = by (has_quote line) refl
+asked_within : (line : List ℕ) → 0 < length (words_of line) →
+    (found_by_blanks line (why_quoted (quoted_words line))).word < length (words_of line)
+asked_within line some = by (has_quote line) refl
   where
     by : (quotes : Bool) → has_quote line ≡ quotes → cond quotes 0 (why_quoted (quoted_words line)).word < length (words_of line)
     by true e = some
@@ -120,6 +114,11 @@ test_within line some = by (has_quote line) refl
         let same : (why_quoted (quoted_words line)).word ≡ (why_quoted (Some (words_of line))).word =
         ap (λ words. (why_quoted words).word) (plain_words (length line) line (omega arith) (no_quotes line e)) in
         omega (arith, here, same)
+
+test_within : (line : List ℕ) → 0 < length (words_of line) → (why_test line).word < length (words_of line)
+test_within line some =
+    word_by (length (words_of line)) (bytes_eq (codes "expect") (first_word line)) (misfit_at 0 (codes "too few words: expect ANSWER.."))
+    (found_by_blanks line (why_quoted (quoted_words line))) (λ e. some) (λ e. asked_within line some)
 
 -- ---- the line
 

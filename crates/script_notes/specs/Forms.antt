@@ -1,5 +1,5 @@
 -- How commands of scripts are written, which word isn't understood of a line that is none, and why. The sentences are our own.
-use Rattle.std.specs.Prelude.{ℕ, zero, suc, ◌+◌, ◌-◌, ◌==◌, Bool, false, List, [], ◌∷◌, ◌++◌, ◌&&◌, not, nat_eq, nat_lt}
+use Rattle.std.specs.Prelude.{ℕ, zero, suc, ◌+◌, ◌-◌, ◌==◌, Bool, false, List, [], ◌∷◌, ◌++◌, ◌&&◌, nat_eq, nat_lt}
 use Rattle.std.specs.Prelude.{Option, Some, None, bytes_eq, codes, drop, find, if◌then◌else◌, length, slice_get}
 use Rattle.std.specs.Option.{is_none}
 use Rattle.std.specs.List.{before_first, ends_with, list_any, position_or_len, prefix_len}
@@ -7,10 +7,10 @@ use Rattle.names.specs.Permissions.{perms_of}
 use Rattle.script_notes.specs.declared.line.Script.{Script}
 use Rattle.script_notes.specs.declared.line.Script.TheVariants.{Run, Steps, Test}
 use Rattle.trace_script.specs.Script.{is_blank, words_of}
-use Rattle.test_script.specs.TestScript.{quote, quoted_words}
+use Rattle.test_script.specs.TestScript.{first_word, quote, quoted_words}
 use Rattle.trace_steps.specs.StepScript.{session_of}
 
--- A form is a command's word and, for each word after it, what it is there for. One that ends with two dots may have more words.
+-- A form is a command's word and, for each word after it, what it is there for.
 abbrev pub run_forms : List (List ℕ)
 run_forms =
     codes "policy" ∷ codes "drop PROFILE" ∷ codes "mkdir PATH" ∷ codes "create PATH" ∷ codes "symlink TEXT PATH"
@@ -33,8 +33,7 @@ step_forms =
     ∷ codes "set NUMBER" ∷ codes "close" ∷ []
 
 abbrev pub test_forms : List (List ℕ)
-test_forms =
-    codes "judge PROFILE NAME PERMS" ∷ codes "explain PROFILE NAME PERMS" ∷ codes "expect ANSWER.." ∷ run_forms
+test_forms = codes "judge PROFILE NAME PERMS" ∷ codes "explain PROFILE NAME PERMS" ∷ run_forms
 
 -- the form whose first word is this
 abbrev pub form_of : List (List ℕ) → List ℕ → Option (List ℕ)
@@ -47,9 +46,6 @@ pub record Misfit : Type 0 where
 
 abbrev pub misfit_at : ℕ → List ℕ → Misfit
 misfit_at word said = record { word = word; said = said }
-
-abbrev pub is_open : List ℕ → Bool
-is_open form = ends_with nat_eq form (codes "..")
 
 abbrev pub asks_perms : List ℕ → Bool
 asks_perms form = ends_with nat_eq form (codes "PERMS")
@@ -84,8 +80,7 @@ odd_word form of_form words =
 abbrev pub misfit_of : List ℕ → List (List ℕ) → List (List ℕ) → Misfit
 misfit_of form of_form words =
     if nat_lt (length words) (length of_form) then misfit_at 0 (codes "too few words: " ++ form)
-    else if nat_lt (length of_form) (length words) && not (is_open form) then
-    misfit_at (length of_form) (codes "too many words: " ++ form)
+    else if nat_lt (length of_form) (length words) then misfit_at (length of_form) (codes "too many words: " ++ form)
     else odd_word form of_form words
 
 -- by the form that begins with the first word, if there is one
@@ -142,8 +137,11 @@ has_quote line = list_any (λ b. b == quote) line
 abbrev pub found_by_blanks : List ℕ → Misfit → Misfit
 found_by_blanks line m = misfit_at (if has_quote line then 0 else m.word) m.said
 
+-- A line that expects an answer begins with `expect` without quotes, and is no command if no answer follows.
 abbrev pub why_test : List ℕ → Misfit
-why_test line = found_by_blanks line (why_quoted (quoted_words line))
+why_test line =
+    if bytes_eq (codes "expect") (first_word line) then misfit_at 0 (codes "too few words: expect ANSWER..")
+    else found_by_blanks line (why_quoted (quoted_words line))
 
 -- ---- the line
 

@@ -3,3 +3,4 @@ pub mod ScriptLines
 pub mod Forms
 pub mod ControlBytes
 pub mod ScriptNotes
+pub mod Said

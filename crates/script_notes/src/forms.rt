@@ -1,7 +1,7 @@
 //! How commands are written.
 ghost use Rattle.std.specs.Prelude.{◌≡◌, bytes_eq, map, option_map};
 ghost use Rattle.std.specs.List.{before_first};
-ghost use Rattle.script_notes.specs.Forms.{asks_perms, form_of, is_open, is_session_word};
+ghost use Rattle.script_notes.specs.Forms.{asks_perms, form_of, is_session_word};
 ghost use Rattle.trace_script.specs.Script.{is_blank};
 
 use names::split_at;
@@ -55,11 +55,10 @@ pub(crate) const STEP_FORMS: [&str; 18] = [
     "close",
 ];
 
-/// How those of `test` are written.
-pub(crate) const TEST_FORMS: [&str; 14] = [
+/// How those of `test` are written, except `expect`, after which any text may follow.
+pub(crate) const TEST_FORMS: [&str; 13] = [
     "judge PROFILE NAME PERMS",
     "explain PROFILE NAME PERMS",
-    "expect ANSWER..",
     "policy",
     "drop PROFILE",
     "mkdir PATH",
@@ -91,13 +90,6 @@ fn begins_with(form: &str, word: &[u8]) -> bool
 {
     let (first, _) = split_at::<Blank>(form.as_bytes());
     first == word
-}
-
-/// Whether a form may have more words than it shows.
-pub(crate) fn is_open(form: &str) -> bool
-    ensures { result ≡ is_open form.now }
-{
-    form.as_bytes().ends_with(b"..")
 }
 
 /// Whether a form ends with permissions.

@@ -15,6 +15,6 @@ mod place;
 mod tests;
 mod text;
 
-pub use laws::carets_are_below_words;
+pub use laws::{carets_are_below_words, what_is_said_is_so};
 pub use line::Script;
 pub use notes::script_notes;

@@ -1,19 +1,20 @@
 //! Which word isn't understood of a line that is no command, and why.
-ghost use Rattle.std.specs.Prelude.{◌≡◌, ◌≤◌, ◌++◌, IfOk, length, map, option_map, slice_get, string_bytes};
-ghost use Rattle.script_notes.specs.Forms.{after_keep, found_by_blanks, has_quote, is_no_perms, is_no_session, misfit_of};
+ghost use Rattle.std.specs.Prelude.{◌≡◌, ◌≤◌, ◌++◌, IfOk, bytes_eq, codes, length, map, option_map, slice_get, string_bytes};
+ghost use Rattle.script_notes.specs.Forms.{after_keep, has_quote, is_no_perms, is_no_session, misfit_of};
 ghost use Rattle.script_notes.specs.Forms.{odd_last, odd_word, why, why_form, why_keep, why_quoted, why_step, why_test, why_words};
 ghost use Rattle.test_script.specs.LineValues.{words_value};
+ghost use Rattle.test_script.specs.TestScript.{first_word};
 ghost use Rattle.trace_script.specs.Script.{words_of};
 
 use crate::forms::{
-    CHANGE_FORMS, RUN_FORMS, STEP_FORMS, TEST_FORMS, asks_perms, form_of, is_open, is_session_word,
+    CHANGE_FORMS, RUN_FORMS, STEP_FORMS, TEST_FORMS, asks_perms, form_of, is_session_word,
 };
 use crate::line::Script;
 use crate::text::joined;
-use names::{NoMemory, Perms};
+use names::{NoMemory, Perms, skip, split_at};
 use std::alloc::{AllocError, Global};
 use test_script::quoted_words;
-use trace_script::{Words, is_word};
+use trace_script::{Blank, Words, is_word};
 
 /// What is said where no command begins with the first word.
 const NO_COMMAND: &str = "no command begins with this word";
@@ -87,6 +88,9 @@ fn why_test(alloc: Global, line: &[u8]) -> Result<Misfit, NoMemory>
     ensures word { IfOk result (λ misfit. misfit.word ≡ (why_test line.now).word) }
     ensures said { IfOk result (λ misfit. string_bytes misfit.said ≡ (why_test line.now).said) }
 {
+    if is_expectation(line) {
+        return misfit_at(alloc, 0, "too few words: ", "expect ANSWER..");
+    }
     let Ok(words) = quoted_words(alloc, line) else {
         return Err(NoMemory);
     };
@@ -98,6 +102,14 @@ fn why_test(alloc: Global, line: &[u8]) -> Result<Misfit, NoMemory>
         });
     }
     Ok(found)
+}
+
+/// Whether a line begins with `expect`, without quotes.
+fn is_expectation(line: &[u8]) -> bool
+    ensures { result ≡ bytes_eq (codes "expect") (first_word line.now) }
+{
+    let (word, _) = split_at::<Blank>(skip::<Blank>(line));
+    is_word("expect", word)
 }
 
 /// Whether a line has a quote.
@@ -190,7 +202,7 @@ fn misfit_of(
 {
     if words.len() < of_form.len() {
         misfit_at(alloc, 0, "too few words: ", form)
-    } else if of_form.len() < words.len() && !is_open(form) {
+    } else if of_form.len() < words.len() {
         misfit_at(alloc, of_form.len(), "too many words: ", form)
     } else {
         odd_word(alloc, form, of_form, words)

@@ -115,7 +115,7 @@ fn changes_after_keep(rt: HostRuntime) -> Result<(), Fail> {
 
 #[test]
 fn scripts_of_test(rt: HostRuntime) -> Result<(), Fail> {
-    let rows: [(&[u8], &[u8]); 5] = [
+    let rows: [(&[u8], &[u8]); 6] = [
         (b"mkdir \"/a b\"\nexpect ok\njudge p \"/\\x41\" r\n", b""),
         (
             b"mkdir \"/a\n",
@@ -132,6 +132,10 @@ fn scripts_of_test(rt: HostRuntime) -> Result<(), Fail> {
         (
             b"expect\n",
             b"line 1, column 1: too few words: expect ANSWER..\nexpect\n^\n",
+        ),
+        (
+            b"\"expect\" ok\n",
+            b"line 1, column 1: no command begins with this word\n\"expect\" ok\n^\n",
         ),
     ];
     for (text, notes) in rows {

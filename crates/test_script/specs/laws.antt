@@ -1,1 +1,2 @@
+pub mod WordReads
 pub mod PlainWords

@@ -9,7 +9,7 @@ use Rattle.std.proofs.lemmas.List.Elements.{All-drop}
 use Rattle.trace_script.specs.Script.{is_blank, words_of}
 use Rattle.trace_script.specs.laws.LineWords.{step_at_end, step_at_word}
 use Rattle.test_script.specs.TestScript.{from_word, quote, quoted_words, with_word}
-use Rattle.test_script.proofs.WordReads.{at_word, first_bare, skips_blanks, word_is_some}
+use Rattle.test_script.specs.laws.WordReads.{at_word, first_bare, skips_blanks, word_is_some}
 
 abbrev pub HasNoQuote : List ℕ → Type 0
 HasNoQuote line = All (λ b. b ≡ quote → ⊥) line

@@ -2,7 +2,7 @@ use Rattle.std.proofs.Common.{drop, sym, ap, ◌∙◌, List, ℕ}
 use Rattle.std.specs.List.{position_or_len}
 use Rattle.trace_script.specs.Script.{is_blank}
 use Rattle.test_script.specs.TestScript.{quoted_words, with_word}
-use Rattle.test_script.proofs.WordReads.{first_bare}
+use Rattle.test_script.specs.laws.WordReads.{first_bare}
 use Rattle.test_script.proofs.quotes.bare_word.Goals as goal
 
 pub returns-clause-word : goal.returns-clause-word

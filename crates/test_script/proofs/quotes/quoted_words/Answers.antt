@@ -1,7 +1,7 @@
 use Rattle.std.proofs.Common.{◌≡◌, ◌++◌, ◌∷◌, [], List, ℕ, Vec, Global, map, sym, ap, ◌∙◌, append-nil, rules, Some}
 use Rattle.std.proofs.lemmas.List.{map-append}
 use Rattle.test_script.specs.TestScript.{quoted_words}
-use Rattle.test_script.proofs.WordReads.{at_word, gathered_first, gathered_next, with_words}
+use Rattle.test_script.specs.laws.WordReads.{at_word, gathered_first, gathered_next, with_words}
 use Rattle.test_script.proofs.quotes.quoted_words.Goals as goal
 
 abbrev texts : List (Vec ℕ Global) → List (List ℕ)

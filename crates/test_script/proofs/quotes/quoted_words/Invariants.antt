@@ -3,7 +3,7 @@ use Rattle.std.proofs.Common.{◌≡◌, length, map}
 use Rattle.std.specs.List.{prefix_len}
 use Rattle.trace_script.specs.Script.{is_blank}
 use Rattle.test_script.specs.TestScript.{quoted_words}
-use Rattle.test_script.proofs.WordReads.{with_words}
+use Rattle.test_script.specs.laws.WordReads.{with_words}
 use Rattle.test_script.proofs.quotes.quoted_words.Given as goal
 
 abbrev pub invariant-loop-left : goal.invariant-loop-left
