@@ -178,20 +178,23 @@ def scripted(command, machine):
     """A command that reads a script, which a machine answers."""
     def run(line, text, _):
         printed, stopped = scripts.run(text, machine(number_of(line, "--capacity", CAPACITY, 1, MOST_ENTRIES)))
-        return script_outcome(printed, stopped, 0, script_notes.notes(command, text) if line.has(VERBOSE) else b"")
+        return script_outcome(printed, stopped, 0, notes_on(command, line, text))
     return run
 
 
 def test_script(line, text, _):
     script = scripts.TestScript(number_of(line, "--capacity", CAPACITY, 1, MOST_ENTRIES))
-    if line.has(VERBOSE):
-        raise events.Undetermined
     written = scripts.Objects if line.has(JSON) else scripts.Lines
     printed, stopped, holds = scripts.test(text, script, line.has("--answers"), written)
-    return script_outcome(printed, stopped, 0 if holds else 1)
+    return script_outcome(printed, stopped, 0 if holds else 1, notes_on("test", line, text))
 
 
-def script_outcome(printed, stopped, status, note=b""):
+def notes_on(command, line, text):
+    """The notes on a script, if they are asked for."""
+    return script_notes.notes(command, text) if line.has(VERBOSE) else b""
+
+
+def script_outcome(printed, stopped, status, note):
     """What is printed, the number of the line that stops the script, or None, and notes."""
     out = b"".join(one + b"\n" for one in printed)
     return Outcome(status, out, note) if stopped is None else Outcome(3, out, b"line %d: not a command\n" % stopped + note)

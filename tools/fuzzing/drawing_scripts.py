@@ -1,6 +1,7 @@
 """Draws scripts of `run`, `test` and `steps`. The second implementation answers each line as it is drawn, so that many lines meet
 entries that exist, and no line is drawn whose answer the rules leave open."""
 from drawing import chance, draw_letters, draw_name, draw_text, mutate
+from drawing_odd_lines import odd_line
 from drawing_words import draw_flags, mixed
 from events import Events, Undetermined
 from scripts import Line, Script, TestScript, plain_words, quoted_words
@@ -11,6 +12,9 @@ LONG = [b"n" * 255, b"n" * 256, b"m" * 254]
 TOKENS = [b" ", b"\t", b"\"", b"/", b"//", b"/.", b"/..", b"#", b"\n", b"\0", b"x", b"l", b"rw", b".\n", b"policy\n", b"\r", b"0",
           b"99999999999999999999", b"expect ", b"keep ", b"close\n", b"open ", b"/a", b"18446744073709551615", b"18446744073709551616",
           b"10", b"\\", b"\\n", b"\\x41", b" ...", b"judge ", b"explain "]
+
+# The option for notes, as both of its words.
+NOTES = {"--verbose", "-v"}
 
 
 class Drawing:
@@ -126,6 +130,11 @@ class Drawing:
         else:
             self.run_line()
 
+    def odd_lines(self):
+        """Puts lines between the others that are often no commands; one within a policy changes its text."""
+        for _ in range(self.draw.choice([1, 1, 2, 3])):
+            self.lines.insert(self.draw.randrange(len(self.lines) + 1), odd_line(self.draw))
+
     def wanted(self):
         """A text that an expectation may have: mostly the last answer or a front part of it."""
         draw, kind = self.draw, self.draw.random()
@@ -199,12 +208,21 @@ def draw_script(draw, command):
         draw.choice([drawing.chain, drawing.deep])()
     for _ in range(draw.choice([5, 20, 40])):
         draw.choice(kinds[command])()
+    flags = draw_script_flags(draw, command)
+    if command == "test" and chance(draw, 0.1 if NOTES.isdisjoint(flags) else 0.8):
+        drawing.odd_lines()
     text = b"\n".join(drawing.lines) + draw.choice([b"\n", b"\n", b""])
     if chance(draw, 0.25):
         text = mutate(draw, text, TOKENS)
     options = draw_capacity(draw, capacity)
-    flags = draw_flags(draw, *(("--json", "--answers") if command == "test" else ("--verbose",)))
     return mixed(draw, [options, *flags], []), text
+
+
+def draw_script_flags(draw, command):
+    """Options without a value: for `test` notes in half of the cases."""
+    if command != "test":
+        return draw_flags(draw, "--verbose")
+    return draw_flags(draw, "--json", "--answers") + ([draw.choice(sorted(NOTES))] if chance(draw, 0.5) else [])
 
 
 def draw_capacity(draw, capacity):

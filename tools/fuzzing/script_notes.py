@@ -1,8 +1,8 @@
-"""Notes on scripts of `run` and `steps` (docs/RULES-PROGRAM.md, "Notes")."""
+"""Notes on scripts of `run`, `test` and `steps` (docs/RULES-PROGRAM.md, "Notes")."""
 import re
 
 import shown
-from scripts import CONTROL, plain_words, read_lines
+from scripts import CONTROL, expectation, plain_words, quoted_words, read_lines
 from texts import Fault, are_letters, read_profile
 
 SESSION = re.compile(rb"[1-9]")
@@ -11,8 +11,12 @@ COMMON = ["policy", "drop PROFILE", "mkdir PATH", "create PATH", "symlink TEXT P
           "rename OLD NEW", "open PROFILE PATH PERMS"]
 EVENTS = ["begin SESSION PROFILE PATH PERMS", "policy-read SESSION", "count SESSION", "cell SESSION NUMBER", "check SESSION", "go SESSION",
           "set NUMBER", "close"]
+JUDGED_LINK = "judged-link PROFILE OLD NEW"
+QUESTIONS = ["judge PROFILE NAME PERMS", "explain PROFILE NAME PERMS"]
 CHANGES = ["mkdir PATH", "create PATH", "symlink TEXT PATH", "link OLD NEW", "unlink PATH", "rmdir PATH", "rename OLD NEW"]
 NO_END = "line %d: the policy that begins here has no end, which is a line with a single dot\n"
+BAD_QUOTE = "a quote isn't closed, or what follows it, or a backslash in it, isn't understood"
+NO_ANSWER = "too few words: expect ANSWER.."
 WITH_CR = "line %d: a CR ends or is in a word, to which it belongs\n"
 WITH_CONTROL = "line %d: a control byte is in a word, to which it belongs\n"
 
@@ -21,8 +25,23 @@ def forms_of(lines):
     return {line.split(" ")[0].encode(): line for line in lines}
 
 
-FORMS = {"run": forms_of([*COMMON, "judged-link PROFILE OLD NEW"]), "steps": forms_of([*COMMON, *EVENTS])}
+FORMS = {"run": forms_of([*COMMON, JUDGED_LINK]), "test": forms_of([*COMMON, JUDGED_LINK, *QUESTIONS]),
+         "steps": forms_of([*COMMON, *EVENTS])}
 CHANGE_FORMS = forms_of(CHANGES)
+SPLITS = {"run": plain_words, "test": quoted_words, "steps": plain_words}
+
+
+def fault_of_line(line, command):
+    """The number of the word below which the caret is, from 0, and why; None for a command or an expectation."""
+    if command != "test":
+        return fault_of(line.words, command)
+    wanted = expectation(line.text)
+    if wanted is not None:
+        return None if wanted else (0, NO_ANSWER)
+    if line.words is None:
+        return 0, BAD_QUOTE
+    fault = fault_of(line.words, command)
+    return (0, fault[1]) if fault and b'"' in line.text else fault
 
 
 def fault_of(words, command):
@@ -81,17 +100,17 @@ def note_on_policy(line):
 def notes(command, text):
     """The notes on a script, up to the line that stops it."""
     found, is_noted = [], False
-    for line in read_lines(text, plain_words):
+    for line in read_lines(text, SPLITS[command]):
         control = CONTROL.search(line.text.replace(b"\t", b" "))
         if control and not is_noted:
             is_noted = True
             found.append(((WITH_CR if control.group() == b"\r" else WITH_CONTROL) % line.number).encode())
-        if line.words is None:
+        if not line.has_end:
             return b"".join([*found, (NO_END % line.number).encode()])
         if line.body is not None:
             found.append(note_on_policy(line))
             continue
-        fault = fault_of(line.words, command)
+        fault = fault_of_line(line, command)
         if fault:
             place = place_of_word(line.text, fault[0])
             return b"".join([*found, shown.shown_place(line.text, place, fault[1], line.number)])

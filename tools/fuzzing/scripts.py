@@ -15,11 +15,13 @@ CONTROL = re.compile(rb"[\0-\x1f\x7f]")
 
 @dataclasses.dataclass
 class Line:
-    """A line of a script with words. `body` is the profile text of a policy."""
+    """A line of a script with words, which are None for a quote that isn't understood, and for a policy that has no end. `body` is the
+    profile text of another policy."""
     number: int
     text: bytes
     words: list
     body: bytes = None
+    has_end: bool = True
 
 
 @dataclasses.dataclass
@@ -78,7 +80,7 @@ def read_lines(text, split):
         line.words = split(line.text)
         if line.words == [b"policy"] and first != [b"expect"]:
             if b"." not in lines[at:]:
-                yield Line(line.number, line.text, None)
+                yield Line(line.number, line.text, None, has_end=False)
                 return
             end = lines.index(b".", at)
             line.body = b"".join(one + b"\n" for one in lines[at:end])
